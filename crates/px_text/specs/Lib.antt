@@ -1,0 +1,5 @@
+pub mod Names
+pub mod Escapes
+pub mod Numbers
+pub mod Nodes
+pub mod Rows

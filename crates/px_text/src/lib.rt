@@ -1,0 +1,16 @@
+//! What every other crate speaks of: bytes, names, escapes and exact decimals.
+//!
+//! It is the bottom of the house. Contracts see [`Bytes`] as a list of byte values and a
+//! [`Decimal`] as a whole number of units of 10^-18. The definitions of a tree, of names and of
+//! numbers stand in `specs/`.
+#![tactic(auto)]
+
+mod attribute;
+mod bytes;
+mod decimal;
+mod names;
+
+pub use attribute::Attribute;
+pub use bytes::{Bytes, Ids, Words};
+pub use decimal::Decimal;
+pub use names::{begins_part, continues_part, is_digit, is_letter, is_white};
