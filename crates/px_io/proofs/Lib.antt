@@ -1,1 +1,3 @@
+pub mod Counts
+pub mod Flowing
 pub mod Fronts
