@@ -1,8 +1,12 @@
 //! Lists of bytes and of numbers, which contracts see as lists.
 
-ghost use Rattle.std.specs.Prelude.{◌≡◌, IfOk};
+ghost use Rattle.std.specs.Prelude.{◌≡◌, IfOk, Some, nat_eq, refl};
+ghost use Rattle.std.specs.Cmp.{partial_equiv_from_equiv};
+ghost use Rattle.std.specs.Cmp.Lexicographic.{pointwise, slice_cmp, nat_list_eq_equiv, nat_list_cmp_total, texts_po, texts_ties};
+ghost use Rattle.std.specs.Ordering.{nat_cmp};
 
 use std::alloc::{AllocError, Global};
+use std::cmp::Ordering;
 use std::marker::Model;
 
 /// A list of bytes. Contracts see the list of their values.
@@ -43,6 +47,55 @@ impl Bytes {
     }
 }
 
+impl Clone for Bytes {
+    ghost is_clone = { λ it copy. copy ≡ it };
+
+    fn clone(&self) -> Result<Bytes, AllocError> {
+        Ok(Bytes {
+            items: self.items.clone()?,
+        })
+    }
+}
+
+impl PartialEq for Bytes {
+    ghost eq = { pointwise nat_eq };
+
+    ghost laws = { partial_equiv_from_equiv nat_list_eq_equiv };
+
+    fn eq(&self, other: &Bytes) -> bool {
+        self.items == other.items
+    }
+}
+
+impl Eq for Bytes {
+    ghost laws = { nat_list_eq_equiv };
+}
+
+/// Bytes are ordered as texts: by the first byte at which they differ.
+impl PartialOrd for Bytes {
+    ghost partial_cmp = { λ x y. Some (slice_cmp nat_cmp x y) };
+
+    ghost laws = { texts_po };
+
+    fn partial_cmp(&self, other: &Bytes) -> Option<Ordering> {
+        Some(self.cmp(other))
+    }
+}
+
+impl Ord for Bytes {
+    ghost cmp = { slice_cmp nat_cmp };
+
+    ghost total = { nat_list_cmp_total };
+
+    ghost matches_partial_cmp = { λ x y. refl };
+
+    ghost matches_eq = { texts_ties };
+
+    fn cmp(&self, other: &Bytes) -> Ordering {
+        self.items.cmp(&other.items)
+    }
+}
+
 /// A list of the ids of subscriptions.
 #[derive(Debug, Drop)]
 pub struct Ids {
@@ -72,6 +125,30 @@ impl Ids {
     }
 }
 
+impl Clone for Ids {
+    ghost is_clone = { λ it copy. copy ≡ it };
+
+    fn clone(&self) -> Result<Ids, AllocError> {
+        Ok(Ids {
+            items: self.items.clone()?,
+        })
+    }
+}
+
+impl PartialEq for Ids {
+    ghost eq = { pointwise nat_eq };
+
+    ghost laws = { partial_equiv_from_equiv nat_list_eq_equiv };
+
+    fn eq(&self, other: &Ids) -> bool {
+        self.items == other.items
+    }
+}
+
+impl Eq for Ids {
+    ghost laws = { nat_list_eq_equiv };
+}
+
 /// A list of 64-bit words.
 #[derive(Debug, Drop)]
 pub struct Words {
@@ -99,4 +176,28 @@ impl Words {
     {
         self.items.as_slice()
     }
+}
+
+impl Clone for Words {
+    ghost is_clone = { λ it copy. copy ≡ it };
+
+    fn clone(&self) -> Result<Words, AllocError> {
+        Ok(Words {
+            items: self.items.clone()?,
+        })
+    }
+}
+
+impl PartialEq for Words {
+    ghost eq = { pointwise nat_eq };
+
+    ghost laws = { partial_equiv_from_equiv nat_list_eq_equiv };
+
+    fn eq(&self, other: &Words) -> bool {
+        self.items == other.items
+    }
+}
+
+impl Eq for Words {
+    ghost laws = { nat_list_eq_equiv };
 }

@@ -8,7 +8,7 @@ ghost use Rattle.px_text.specs.Numbers.{signed, units_of, value};
 use std::marker::Model;
 
 /// A whole number of units of 10^-18, of absolute value below 10^36.
-#[derive(Debug, Drop)]
+#[derive(Clone, Copy, Debug, PartialEq, Eq, PartialOrd, Ord)]
 pub struct Decimal {
     units: i128,
 }
