@@ -1,2 +1,4 @@
 pub mod Digits
+pub mod NameParts
 pub mod Numbers
+pub mod Unescaping

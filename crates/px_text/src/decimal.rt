@@ -1,14 +1,18 @@
 //! Exact decimals.
 
-ghost use Rattle.std.specs.Prelude.{◌≡◌, ◌<◌, ◌≤◌, ◌^◌, IsTrue, length, unsigned_abs};
+ghost use Rattle.std.specs.Prelude.{◌≡◌, ◌<◌, ◌≤◌, ◌^◌, IsTrue, Some, length, unsigned_abs};
+ghost use Rattle.std.specs.Cmp.Rules.{comparing};
 ghost use Rattle.std.specs.List.{list_all};
+ghost use Rattle.std.specs.Ordering.{int_cmp, int_eq};
+ghost use Rattle.std.proofs.Common.{rules};
 ghost use Rattle.px_text.specs.Names as names;
 ghost use Rattle.px_text.specs.Numbers.{signed, units_of, value};
 
+use std::cmp::Ordering;
 use std::marker::Model;
 
 /// A whole number of units of 10^-18, of absolute value below 10^36.
-#[derive(Clone, Copy, Debug, PartialEq, Eq, PartialOrd, Ord)]
+#[derive(Clone, Copy, Debug)]
 pub struct Decimal {
     units: i128,
 }
@@ -47,6 +51,44 @@ impl Decimal {
         Decimal {
             units: signed(is_negative, before * UNITS_OF_ONE + after),
         }
+    }
+}
+
+impl PartialEq for Decimal {
+    ghost eq = { int_eq };
+
+    ghost laws = { Prim.search (comparing, rules) };
+
+    fn eq(&self, other: &Decimal) -> bool {
+        self.units == other.units
+    }
+}
+
+impl Eq for Decimal {
+    ghost laws = { Prim.search rules };
+}
+
+impl PartialOrd for Decimal {
+    ghost partial_cmp = { λ x y. Some (int_cmp x y) };
+
+    ghost laws = { Prim.search (comparing, rules) };
+
+    fn partial_cmp(&self, other: &Decimal) -> Option<Ordering> {
+        Some(self.cmp(other))
+    }
+}
+
+impl Ord for Decimal {
+    ghost cmp = { int_cmp };
+
+    ghost total = { Prim.search rules };
+
+    ghost matches_partial_cmp = { Prim.search rules };
+
+    ghost matches_eq = { Prim.search rules };
+
+    fn cmp(&self, other: &Decimal) -> Ordering {
+        self.units.cmp(&other.units)
     }
 }
 

@@ -8,9 +8,13 @@
 mod attribute;
 mod bytes;
 mod decimal;
+mod escapes;
 mod names;
 
 pub use attribute::Attribute;
 pub use bytes::{Bytes, Ids, Words};
 pub use decimal::Decimal;
-pub use names::{begins_part, continues_part, is_digit, is_letter, is_white};
+pub use escapes::unescape;
+pub use names::{
+    begins_part, continues_part, is_digit, is_filter_name, is_letter, is_pyx_name, is_white,
+};
