@@ -1,12 +1,13 @@
 -- The value of a list of digits, one digit after another and by parts.
-use Rattle.std.proofs.Common.{◌≡◌, ℕ, zero, suc, ◌+◌, ◌-◌, ◌*◌, ◌^◌, ◌<◌, ◌≤◌, Bool, true, false, ◌&&◌, List, [], ◌∷◌, ◌++◌, map, length, take, get_or, refl, ap, ◌∙◌, lit<, sym, arith}
+use Rattle.std.proofs.Common.{◌≡◌, ℕ, zero, suc, ◌+◌, ◌-◌, ◌*◌, ◌^◌, ◌<◌, ◌≤◌, Bool, true, false, not, nat_lt, ◌==◌, ◌&&◌, ◌||◌, min, List, [], ◌∷◌, ◌++◌, map, length, length-append, take, drop, get_or, refl, ap, ◌∙◌, lit<, sym, ⊎_elim, arith}
 use Rattle.std.specs.List.{list_all}
 use Rattle.std.specs.Int.Digits.{number_from_digits, number_from_digits_after}
 use Rattle.std.proofs.Math.Nat.{pow-suc, pow-le-pow_right, one-le-pow, mul-lt-mul_of_pos_right}
 use Rattle.std.proofs.lemmas.Grind.{pow_more}
 use Rattle.std.proofs.lemmas.Nat.{pow-add}
+use Rattle.std.proofs.lemmas.Bool.{cases_lt}
 use Rattle.std.proofs.lemmas.Bool.Decides.{nat_tests}
-use Rattle.std.proofs.lemmas.List.{map-append, map_push, take_more}
+use Rattle.std.proofs.lemmas.List.{map-append, map_push, take_more, take_all, drop_all, take-append-le, drop-append-le}
 use Rattle.std.proofs.lemmas.Int.Digits.{number_after_append, number_push}
 use Rattle.px_text.specs.Names.{is_digit}
 use Rattle.px_text.specs.Numbers.{value}
@@ -71,3 +72,41 @@ fraction_below_one v n h l =
     let e : 1 ≤ 10 ^ (18 - n) = one-le-pow (18 - n) 10 (lit< tt) in
     let q : v * 10 ^ (18 - n) < 10 ^ n * 10 ^ (18 - n) = mul-lt-mul_of_pos_right h e in
     omega arith
+
+-- a value that is cut at a bound may be cut before the next digit
+pub capped_more : (ds : List ℕ) (d v : ℕ) → v ≡ min (value ds) (10 ^ 18) → min (v * 10 + (d - 48)) (10 ^ 18) ≡ min (value (ds ++ d ∷ [])) (10 ^ 18)
+capped_more ds d v e = omega (arith, value_push ds d)
+
+pub count_more : (ds : List ℕ) (d n : ℕ) → n ≡ min (length ds) 19 → min (n + 1) 19 ≡ min (length (ds ++ d ∷ [])) 19
+count_more ds d n e = omega (arith, length-append ds (d ∷ []))
+
+-- among the first eighteen digits a further one counts
+pub short_value : (ds : List ℕ) (d : ℕ) → length ds < 18 → value (take 18 ds) * 10 + (d - 48) ≡ value (take 18 (ds ++ d ∷ []))
+short_value ds d h =
+    let before : take 18 ds ≡ ds = take_all 18 ds (omega arith) in
+    let with : take 18 (ds ++ d ∷ []) ≡ ds ++ d ∷ [] = take_all 18 (ds ++ d ∷ []) (omega (arith, length-append ds (d ∷ []))) in
+    rw (before, with) (sym (value_push ds d))
+
+pub short_rest : (ds : List ℕ) (d : ℕ) → length ds < 18 → value (drop 18 ds) ≡ value (drop 18 (ds ++ d ∷ []))
+short_rest ds d h =
+    let before : drop 18 ds ≡ [] = drop_all 18 ds (omega arith) in
+    let with : drop 18 (ds ++ d ∷ []) ≡ [] = drop_all 18 (ds ++ d ∷ []) (omega (arith, length-append ds (d ∷ []))) in
+    rw (before, with) refl
+
+-- behind them only whether it is 0 counts
+pub long_value : (ds : List ℕ) (d : ℕ) → 18 ≤ length ds → value (take 18 ds) ≡ value (take 18 (ds ++ d ∷ []))
+long_value ds d h = sym (ap value (take-append-le 18 ds (d ∷ []) h))
+
+pub long_rest : (ds : List ℕ) (d : ℕ) (below : Bool) → 18 ≤ length ds → is_digit d ≡ true → below ≡ nat_lt 0 (value (drop 18 ds)) →
+    (below || not (d == 48)) ≡ nat_lt 0 (value (drop 18 (ds ++ d ∷ [])))
+long_rest ds d below h digit e =
+    let more : value (drop 18 (ds ++ d ∷ [])) ≡ value (drop 18 ds) * 10 + (d - 48) = ap value (drop-append-le 18 ds (d ∷ []) h) ∙ value_push (drop 18 ds) d in
+    rw (more, e) (not_zero (value (drop 18 ds)) d (digit_between d digit).0)
+  where
+    not_zero : (v d : ℕ) → 48 ≤ d → (nat_lt 0 v || not (d == 48)) ≡ nat_lt 0 (v * 10 + (d - 48))
+    not_zero v d l = grind (arith, nat_tests)
+
+-- what is kept of a value is below the power of the places that are kept
+pub capped_below : (v n m : ℕ) → v < 10 ^ (n + 1) → m ≡ min (min (n + 1) 255) 19 → min v (10 ^ 18) < 10 ^ m
+capped_below v n m h e =
+    ⊎_elim (λ l. let p = power_at_most (n + 1) m (omega arith) in omega arith) (λ l. let p = power_at_most 19 m (omega arith) in omega arith) (cases_lt n 19)

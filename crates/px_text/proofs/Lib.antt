@@ -1,4 +1,5 @@
 pub mod Digits
 pub mod NameParts
 pub mod Numbers
+pub mod Scanning
 pub mod Unescaping

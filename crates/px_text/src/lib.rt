@@ -8,8 +8,10 @@
 mod attribute;
 mod bytes;
 mod decimal;
+mod digit_runs;
 mod escapes;
 mod names;
+mod scan;
 
 pub use attribute::Attribute;
 pub use bytes::{Bytes, Ids, Words};

@@ -1,0 +1,75 @@
+-- How what a text spells goes on behind one more byte.
+use Rattle.std.proofs.Common.{◌≡◌, ◌≢◌, ℕ, Bool, true, false, ◌&&◌, not, ◌==◌, List, [], ◌∷◌, ◌++◌, refl, ap, sym, ◌∙◌, Option, Some, None, unwrap_or, if◌then◌else◌, append_assoc, append-nil, arith}
+use Rattle.std.specs.List.{list_all}
+use Rattle.std.proofs.lemmas.Bool.Decides.{nat_tests}
+use Rattle.std.proofs.lemmas.List.Folds.{list_all-append}
+use Rattle.px_text.specs.declared.scan.NumberScan.{NumberScan}
+use Rattle.px_text.specs.Names.{is_digit, is_white}
+use Rattle.px_text.specs.Numbers.{Numeral, front, past, is_empty, numeral_if, unsigned, numeral}
+use Rattle.px_text.specs.Scans.{IsWhole, IsFraction, IsBegun, HasTaken, goes_on}
+use Rattle.px_text.proofs.Numbers.{begins, take_front, past_front}
+
+-- a byte more, by what the text would have gone on with
+pub taken : (scan next : NumberScan) (text : List ℕ) (b : ℕ) (h : HasTaken scan text) (whole : List ℕ) (fraction : Option (List ℕ)) →
+    IsWhole next.whole whole → IsFraction next.fraction (unwrap_or fraction []) → list_all is_digit whole ≡ true → list_all is_digit (unwrap_or fraction []) ≡ true →
+    IsBegun next.stage next.is_negative whole fraction →
+    ((rest : List ℕ) → goes_on scan.stage scan.is_negative h.whole h.fraction (b ∷ rest) ≡ goes_on next.stage next.is_negative whole fraction rest) →
+    HasTaken next (text ++ b ∷ [])
+taken scan next text b h whole fraction wi fi wd fd begun steps = record {
+  whole = whole;
+  fraction = fraction;
+  whole_is = wi;
+  fraction_is = fi;
+  whole_digits = wd;
+  fraction_digits = fd;
+  begun = begun;
+  goes = λ rest. ap numeral (append_assoc text (b ∷ []) rest) ∙ h.goes (b ∷ rest) ∙ steps rest;
+}
+
+pub is_not : (b d : ℕ) → b ≢ d → (b == d) ≡ false
+is_not b d h = grind (arith, nat_tests)
+
+pub one_more_digit : (ds : List ℕ) (b : ℕ) → list_all is_digit ds ≡ true → is_digit b ≡ true → list_all is_digit (ds ++ b ∷ []) ≡ true
+one_more_digit ds b h d = rw (list_all-append is_digit ds (b ∷ []), h, d) refl
+
+-- behind the digits only white space may stand
+pub white_behind : (is_negative : Bool) (whole : List ℕ) (fraction : Option (List ℕ)) (b : ℕ) (rest : List ℕ) → is_white b ≡ true →
+    numeral_if is_negative whole fraction (b ∷ rest) ≡ numeral_if is_negative whole fraction rest
+white_behind is_negative whole fraction b rest w = rw w refl
+
+pub other_behind : (is_negative : Bool) (whole : List ℕ) (fraction : Option (List ℕ)) (b : ℕ) (rest : List ℕ) → is_white b ≡ false →
+    numeral_if is_negative whole fraction (b ∷ rest) ≡ None
+other_behind is_negative whole fraction b rest w = rw w (never (not (is_empty (whole ++ unwrap_or fraction []))) _)
+  where
+    never : (t : Bool) (n : Numeral) → (if t && false then Some n else None) ≡ None
+    never true n = refl
+    never false n = refl
+
+pub whole_digit : (is_negative : Bool) (whole : List ℕ) (b : ℕ) (rest : List ℕ) → unsigned is_negative (whole ++ b ∷ rest) ≡ unsigned is_negative ((whole ++ b ∷ []) ++ rest)
+whole_digit is_negative whole b rest = ap (unsigned is_negative) (sym (append_assoc whole (b ∷ []) rest))
+
+pub whole_point : (is_negative : Bool) (whole rest : List ℕ) → list_all is_digit whole ≡ true →
+    unsigned is_negative (whole ++ 46 ∷ rest) ≡ numeral_if is_negative whole (Some (front is_digit rest)) (past is_digit rest)
+unfolding begins
+whole_point is_negative whole rest d = rw (take_front is_digit whole (46 ∷ rest) d refl, past_front is_digit whole (46 ∷ rest) d refl) refl
+
+pub whole_ends : (is_negative : Bool) (whole : List ℕ) (b : ℕ) (rest : List ℕ) → list_all is_digit whole ≡ true → is_digit b ≡ false → (b == 46) ≡ false →
+    unsigned is_negative (whole ++ b ∷ rest) ≡ numeral_if is_negative whole None (b ∷ rest)
+unfolding begins
+whole_ends is_negative whole b rest d n p = rw (take_front is_digit whole (b ∷ rest) d n, past_front is_digit whole (b ∷ rest) d n, p) refl
+
+pub fraction_digit : (is_negative : Bool) (whole fraction : List ℕ) (b : ℕ) (rest : List ℕ) → is_digit b ≡ true →
+    numeral_if is_negative whole (Some (fraction ++ front is_digit (b ∷ rest))) (past is_digit (b ∷ rest))
+    ≡ numeral_if is_negative whole (Some ((fraction ++ b ∷ []) ++ front is_digit rest)) (past is_digit rest)
+fraction_digit is_negative whole fraction b rest d =
+    rw d (ap (λ ds. numeral_if is_negative whole (Some ds) (past is_digit rest)) (sym (append_assoc fraction (b ∷ []) (front is_digit rest))))
+
+pub fraction_ends : (is_negative : Bool) (whole fraction : List ℕ) (b : ℕ) (rest : List ℕ) → is_digit b ≡ false →
+    numeral_if is_negative whole (Some (fraction ++ front is_digit (b ∷ rest))) (past is_digit (b ∷ rest)) ≡ numeral_if is_negative whole (Some fraction) (b ∷ rest)
+fraction_ends is_negative whole fraction b rest n = rw n (ap (λ ds. numeral_if is_negative whole (Some ds) (b ∷ rest)) (append-nil fraction))
+
+pub first_white : (b : ℕ) (rest : List ℕ) → is_white b ≡ true → numeral (b ∷ rest) ≡ numeral rest
+first_white b rest w = rw w refl
+
+pub first_other : (b : ℕ) (rest : List ℕ) → is_white b ≡ false → (b == 45) ≡ false → numeral (b ∷ rest) ≡ unsigned false (b ∷ rest)
+first_other b rest w m = rw (w, m) refl
