@@ -1,8 +1,8 @@
 -- The value of a list of digits, one digit after another and by parts.
-use Rattle.std.proofs.Common.{◌≡◌, ℕ, zero, suc, ◌+◌, ◌-◌, ◌*◌, ◌^◌, ◌<◌, ◌≤◌, Bool, true, false, not, nat_lt, ◌==◌, ◌&&◌, ◌||◌, min, List, [], ◌∷◌, ◌++◌, map, length, length-append, take, drop, get_or, refl, ap, ◌∙◌, lit<, sym, ⊎_elim, arith}
+use Rattle.std.proofs.Common.{◌≡◌, ℕ, zero, suc, ◌+◌, ◌-◌, ◌*◌, ◌^◌, ◌<◌, ◌≤◌, Bool, true, false, not, nat_lt, ◌==◌, ◌&&◌, ◌||◌, min, List, [], ◌∷◌, ◌++◌, map, length, length-append, take, drop, get_or, refl, ap, ◌∙◌, lit<, sym, ⊎_elim, mul-one, arith}
 use Rattle.std.specs.List.{list_all}
 use Rattle.std.specs.Int.Digits.{number_from_digits, number_from_digits_after}
-use Rattle.std.proofs.Math.Nat.{pow-suc, pow-le-pow_right, one-le-pow, mul-lt-mul_of_pos_right}
+use Rattle.std.proofs.Math.Nat.{pow-suc, pow-le-pow_right, one-le-pow, mul-le-mul_right, mul-lt-mul_of_pos_right}
 use Rattle.std.proofs.lemmas.Grind.{pow_more}
 use Rattle.std.proofs.lemmas.Nat.{pow-add}
 use Rattle.std.proofs.lemmas.Bool.{cases_lt}
@@ -36,6 +36,14 @@ pub value-append : (a b : List ℕ) → value (a ++ b) ≡ value a * 10 ^ length
 value-append a b =
     ap (number_from_digits 10) (map-append (λ d. d - 48) a b) ∙ number_after_append 10 0 (map (λ d. d - 48) a) (map (λ d. d - 48) b)
     ∙ after (value a) (map (λ d. d - 48) b) ∙ ap (λ n. value a * 10 ^ n + value b) (length-digits b)
+
+pub value_below : (ds : List ℕ) → list_all is_digit ds ≡ true → value ds < 10 ^ length ds
+value_below [] h = omega arith
+value_below (d ∷ ds) h =
+    let p = first_and_rest (is_digit d) (list_all is_digit ds) h in
+    let first = digit_between d p.0 in
+    let fits : value (d ∷ []) * 10 ^ length ds ≤ 9 * 10 ^ length ds = mul-le-mul_right (10 ^ length ds) (omega arith) in
+    omega (arith, value-append (d ∷ []) ds, value_below ds p.1, pow-suc 10 (length ds))
 
 pub value_push : (ds : List ℕ) (d : ℕ) → value (ds ++ d ∷ []) ≡ value ds * 10 + (d - 48)
 value_push ds d = ap (number_from_digits 10) (map_push (λ b. b - 48) ds d) ∙ number_push 10 (map (λ b. b - 48) ds) (d - 48)
@@ -110,3 +118,11 @@ long_rest ds d below h digit e =
 pub capped_below : (v n m : ℕ) → v < 10 ^ (n + 1) → m ≡ min (min (n + 1) 255) 19 → min v (10 ^ 18) < 10 ^ m
 capped_below v n m h e =
     ⊎_elim (λ l. let p = power_at_most (n + 1) m (omega arith) in omega arith) (λ l. let p = power_at_most 19 m (omega arith) in omega arith) (cases_lt n 19)
+
+-- what is kept of a fraction is less than one
+pub kept_below_one : (v n : ℕ) → v < 10 ^ 18 → v < 10 ^ n → v * 10 ^ (18 - n) < 10 ^ 18
+kept_below_one v n capped below =
+    ⊎_elim
+    (λ l. let none : 18 - n ≡ 0 = omega arith in rw (none, mul-one) capped)
+    (λ l. fraction_below_one v n below l)
+    (cases_lt 18 n)

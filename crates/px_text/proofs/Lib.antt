@@ -1,3 +1,4 @@
+pub mod Comparing
 pub mod Digits
 pub mod NameParts
 pub mod Numbers

@@ -1,9 +1,10 @@
 -- How what a text spells goes on behind one more byte.
-use Rattle.std.proofs.Common.{◌≡◌, ◌≢◌, ℕ, Bool, true, false, ◌&&◌, not, ◌==◌, List, [], ◌∷◌, ◌++◌, refl, ap, sym, ◌∙◌, Option, Some, None, unwrap_or, if◌then◌else◌, append_assoc, append-nil, arith}
+use Rattle.std.proofs.Common.{◌≡◌, ◌≢◌, ◌⊎◌, inl, inr, ℕ, min, nat_lt, ◌||◌, length, Bool, true, false, ◌&&◌, not, ◌==◌, List, [], ◌∷◌, ◌++◌, refl, ap, sym, ◌∙◌, Option, Some, None, unwrap_or, if◌then◌else◌, append_assoc, append-nil, arith}
 use Rattle.std.specs.List.{list_all}
 use Rattle.std.proofs.lemmas.Bool.Decides.{nat_tests}
 use Rattle.std.proofs.lemmas.List.Folds.{list_all-append}
 use Rattle.px_text.specs.declared.scan.NumberScan.{NumberScan}
+use Rattle.px_text.specs.declared.scan.Stage.TheVariants.{Before, InWhole, InFraction, Behind, NotANumber}
 use Rattle.px_text.specs.Names.{is_digit, is_white}
 use Rattle.px_text.specs.Numbers.{Numeral, front, past, is_empty, numeral_if, unsigned, numeral}
 use Rattle.px_text.specs.Scans.{IsWhole, IsFraction, IsBegun, HasTaken, goes_on}
@@ -73,3 +74,38 @@ first_white b rest w = rw w refl
 
 pub first_other : (b : ℕ) (rest : List ℕ) → is_white b ≡ false → (b == 45) ≡ false → numeral (b ∷ rest) ≡ unsigned false (b ∷ rest)
 first_other b rest w m = rw (w, m) refl
+
+-- a text that ends where the scan is
+now : (scan : NumberScan) (text : List ℕ) (h : HasTaken scan text) → numeral text ≡ goes_on scan.stage scan.is_negative h.whole h.fraction []
+now scan text h = ap numeral (sym (append-nil text)) ∙ h.goes []
+
+pub ends_as_nothing : (scan : NumberScan) (text : List ℕ) (h : HasTaken scan text) → (scan.stage ≡ Before) ⊎ (scan.stage ≡ NotANumber) → numeral text ≡ None
+ends_as_nothing scan text h (inl e) = rw e at (now scan text h)
+ends_as_nothing scan text h (inr e) = rw e at (now scan text h)
+
+whole_now : (is_negative : Bool) (whole : List ℕ) → list_all is_digit whole ≡ true → unsigned is_negative (whole ++ []) ≡ numeral_if is_negative whole None []
+unfolding begins
+whole_now is_negative whole d = rw (take_front is_digit whole [] d refl, past_front is_digit whole [] d refl) refl
+
+pub ends_in_digits : (scan : NumberScan) (text : List ℕ) (h : HasTaken scan text) → (scan.stage ≡ InWhole) ⊎ ((scan.stage ≡ InFraction) ⊎ (scan.stage ≡ Behind)) →
+    numeral text ≡ numeral_if scan.is_negative h.whole h.fraction []
+ends_in_digits scan text h (inl e) =
+    let none : h.fraction ≡ None = rw e at h.begun in
+    (rw e at (now scan text h)) ∙ whole_now scan.is_negative h.whole h.whole_digits ∙ ap (λ f. numeral_if scan.is_negative h.whole f []) (sym none)
+ends_in_digits scan text h (inr (inl e)) =
+    let some : h.fraction ≡ Some (unwrap_or h.fraction []) = rw e at h.begun in
+    (rw e at (now scan text h)) ∙ ap (λ ds. numeral_if scan.is_negative h.whole (Some ds) []) (append-nil (unwrap_or h.fraction []))
+    ∙ ap (λ f. numeral_if scan.is_negative h.whole f []) (sym some)
+ends_in_digits scan text h (inr (inr e)) = rw e at (now scan text h)
+
+-- with a digit on either side of the point it is a numeral
+pub if_any_digit : (is_negative : Bool) (whole : List ℕ) (fraction : Option (List ℕ)) (m n : ℕ) → m ≡ min (length whole) 19 → n ≡ min (length (unwrap_or fraction [])) 19 →
+    numeral_if is_negative whole fraction [] ≡ (if nat_lt 0 m || nat_lt 0 n then Some (record { is_negative = is_negative; whole = whole; fraction = fraction }) else None)
+if_any_digit is_negative whole fraction m n e f = by_digits whole (unwrap_or fraction []) _ e f
+  where
+    by_digits : (whole digits : List ℕ) (x : Numeral) → m ≡ min (length whole) 19 → n ≡ min (length digits) 19 →
+        (if not (is_empty (whole ++ digits)) && true then Some x else None) ≡ (if nat_lt 0 m || nat_lt 0 n then Some x else None)
+    by_digits [] [] x e f = let zero_m : m ≡ 0 = omega arith in let zero_n : n ≡ 0 = omega arith in rw (zero_m, zero_n) refl
+    by_digits [] (d ∷ digits) x e f =
+        let zero_m : m ≡ 0 = omega arith in let some : nat_lt 0 n ≡ true = grind (arith, nat_tests) in rw (zero_m, some) refl
+    by_digits (d ∷ whole) digits x e f = let some : nat_lt 0 m ≡ true = grind (arith, nat_tests) in rw some refl

@@ -47,3 +47,7 @@ pub record HasTaken (scan : NumberScan) (text : List ℕ) : Type 0 where
   pub fraction_digits : list_all is_digit (unwrap_or fraction []) ≡ true
   pub begun : IsBegun scan.stage scan.is_negative whole fraction
   pub goes : (rest : List ℕ) → numeral (text ++ rest) ≡ goes_on scan.stage scan.is_negative whole fraction rest
+
+-- the numeral of a scan's sign and these digits
+abbrev pub numeral_of : NumberScan → List ℕ → Option (List ℕ) → Numeral
+numeral_of scan whole fraction = record { is_negative = scan.is_negative; whole = whole; fraction = fraction }

@@ -52,6 +52,16 @@ impl Decimal {
             units: signed(is_negative, before * UNITS_OF_ONE + after),
         }
     }
+
+    /// The number of a sign and so many units of 10^-18.
+    pub(crate) fn of_units(is_negative: bool, size: u128) -> Decimal
+        requires { size < 10 ^ 36 }
+        ensures { result ≡ signed is_negative size }
+    {
+        Decimal {
+            units: signed(is_negative, size),
+        }
+    }
 }
 
 impl PartialEq for Decimal {
