@@ -1,13 +1,19 @@
 -- How what a text spells goes on behind one more byte.
-use Rattle.std.proofs.Common.{◌≡◌, ◌≢◌, ◌⊎◌, inl, inr, ℕ, min, nat_lt, ◌||◌, length, Bool, true, false, ◌&&◌, not, ◌==◌, List, [], ◌∷◌, ◌++◌, refl, ap, sym, ◌∙◌, Option, Some, None, unwrap_or, if◌then◌else◌, append_assoc, append-nil, arith}
+use Rattle.std.proofs.Common.{◌≡◌, ◌≢◌, ◌⊎◌, inl, inr, ℕ, ℤ, ◌+◌, ◌-◌, ◌*◌, ◌^◌, ◌<◌, ◌≤◌, min, nat_lt, ◌||◌, length, Bool, true, false, ◌&&◌, not, ◌==◌, List, [], ◌∷◌, ◌++◌, refl, ap, sym, ◌∙◌, Option, Some, None, unwrap_or, if◌then◌else◌, append_assoc, append-nil, arith}
 use Rattle.std.specs.List.{list_all}
 use Rattle.std.proofs.lemmas.Bool.Decides.{nat_tests}
 use Rattle.std.proofs.lemmas.List.Folds.{list_all-append}
 use Rattle.px_text.specs.declared.scan.NumberScan.{NumberScan}
 use Rattle.px_text.specs.declared.scan.Stage.TheVariants.{Before, InWhole, InFraction, Behind, NotANumber}
 use Rattle.px_text.specs.Names.{is_digit, is_white}
-use Rattle.px_text.specs.Numbers.{Numeral, front, past, is_empty, numeral_if, unsigned, numeral}
+use Rattle.px_text.specs.Numbers.{Numeral, value, units_of, fraction_of, front, past, is_empty, numeral_if, unsigned, numeral}
+use Rattle.px_text.specs.Readings.{is_long, reading_of}
+use Rattle.px_text.specs.declared.reading.Reading.TheVariants.{Value, Long}
+use Rattle.px_text.specs.declared.digit_runs.WholeDigits.{WholeDigits}
+use Rattle.px_text.specs.declared.digit_runs.FractionDigits.{FractionDigits}
 use Rattle.px_text.specs.Scans.{IsWhole, IsFraction, IsBegun, HasTaken, goes_on}
+use Rattle.std.proofs.lemmas.List.{take_all}
+use Rattle.px_text.proofs.Digits.{power_at_most, units_by_parts}
 use Rattle.px_text.proofs.Numbers.{begins, take_front, past_front}
 
 -- a byte more, by what the text would have gone on with
@@ -109,3 +115,43 @@ if_any_digit is_negative whole fraction m n e f = by_digits whole (unwrap_or fra
     by_digits [] (d ∷ digits) x e f =
         let zero_m : m ≡ 0 = omega arith in let some : nat_lt 0 n ≡ true = grind (arith, nat_tests) in rw (zero_m, some) refl
     by_digits (d ∷ whole) digits x e f = let some : nat_lt 0 m ≡ true = grind (arith, nat_tests) in rw some refl
+
+-- the units of few digits are all kept
+pub kept_units : (m : WholeDigits) (n : FractionDigits) (whole fraction : List ℕ) → IsWhole m whole → IsFraction n fraction → m.count ≤ 18 → n.count ≤ 18 →
+    m.value * 10 ^ 18 + n.value * 10 ^ (18 - n.count) ≡ value (whole ++ fraction) * 10 ^ (18 - length fraction)
+kept_units m n whole fraction w f few_m few_n =
+    let p = power_at_most m.count 18 few_m in
+    let below : m.value < 10 ^ 18 = omega (arith, m.bounded) in
+    let whole_is : m.value ≡ value whole = omega (arith, w.value_is) in
+    let short : length fraction ≤ 18 = omega (arith, f.count_is) in
+    let count : n.count ≡ length fraction = omega (arith, f.count_is) in
+    let fraction_is : n.value ≡ value fraction = f.value_is ∙ ap value (take_all 18 fraction short) in
+    rw (whole_is, fraction_is, count) (sym (units_by_parts whole fraction short))
+
+pub many : (m : ℕ) (digits : List ℕ) → m ≡ min (length digits) 19 → 18 < m → nat_lt 18 (length digits) ≡ true
+many m digits e h = let l : 18 < length digits = omega arith in grind (arith, nat_tests)
+
+pub few : (m : ℕ) (digits : List ℕ) → m ≡ min (length digits) 19 → m ≤ 18 → nat_lt 18 (length digits) ≡ false
+few m digits e h = let l : length digits ≤ 18 = omega arith in grind (arith, nat_tests)
+
+pub reads_long : (found : Option Numeral) (n : Numeral) → found ≡ Some n → is_long n ≡ true → Long ≡ reading_of found
+reads_long found n e l = rw (e, l) refl
+
+pub reads_value : (found : Option Numeral) (n : Numeral) (units : ℤ) → found ≡ Some n → is_long n ≡ false → units ≡ units_of n.is_negative n.whole (fraction_of n) → Value units ≡ reading_of found
+reads_value found n units e l u = rw (e, l, u) refl
+
+-- what is no number stays none, whatever comes
+pub stays_nothing : (scan : NumberScan) (text more all : List ℕ) → HasTaken scan text → scan.stage ≡ NotANumber → text ++ more ≡ all → HasTaken scan all
+stays_nothing scan text more all h e joined = record {
+  whole = h.whole;
+  fraction = h.fraction;
+  whole_is = h.whole_is;
+  fraction_is = h.fraction_is;
+  whole_digits = h.whole_digits;
+  fraction_digits = h.fraction_digits;
+  begun = h.begun;
+  goes = λ rest.
+      let same : all ++ rest ≡ text ++ (more ++ rest) = ap (λ t. t ++ rest) (sym joined) ∙ append_assoc text more rest in
+      let none : numeral (text ++ (more ++ rest)) ≡ None = rw e at (h.goes (more ++ rest)) in
+      rw e (ap numeral same ∙ none);
+}

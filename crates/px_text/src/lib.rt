@@ -11,6 +11,8 @@ mod decimal;
 mod digit_runs;
 mod escapes;
 mod names;
+mod printing;
+mod reading;
 mod scan;
 
 pub use attribute::Attribute;

@@ -11,6 +11,7 @@ ghost use Rattle.px_text.specs.declared.scan.Stage.TheVariants.{Before, InWhole,
 use crate::decimal::Decimal;
 use crate::digit_runs::{FractionDigits, ONE, PLACES, WholeDigits};
 use crate::names::{is_digit, is_white};
+use crate::reading::Reading;
 use std::cmp::Ordering;
 
 /// How far a text is that may be a number.
@@ -37,6 +38,7 @@ pub struct NumberScan {
 }
 
 impl NumberScan {
+    ghost use Rattle.px_text.specs.Readings.{reading_of};
     ghost use Rattle.px_text.specs.Scans.{IsWhole, IsFraction, HasTaken, numeral_of};
 
     /// A scan that has taken nothing.
@@ -56,6 +58,9 @@ impl NumberScan {
         ensures { (text : List ℕ) → HasTaken self.old text → HasTaken self.new (text ++ piece.now) }
     {
         for byte in piece {
+            if let Stage::NotANumber = self.stage {
+                return;
+            }
             self.take_byte(*byte);
         }
     }
@@ -81,6 +86,22 @@ impl NumberScan {
             Stage::InWhole | Stage::InFraction | Stage::Behind => self.whole.count > 0
                 || self.fraction.count > 0,
         }
+    }
+
+    /// The decimal that the text is, if it is one.
+    pub(crate) fn reading(&self) -> Reading
+        ensures { (text : List ℕ) → HasTaken self.now text → result ≡ reading_of (numeral text) }
+    {
+        if !self.is_number() {
+            return Reading::NotANumber;
+        }
+        if self.whole.count > PLACES {
+            return Reading::Long;
+        }
+        if self.fraction.count > PLACES {
+            return Reading::Long;
+        }
+        Reading::Value(Decimal::of_units(self.is_negative, self.size()))
     }
 
     /// How the digits stand to a size in units of 10^-18.
