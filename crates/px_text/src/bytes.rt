@@ -201,3 +201,18 @@ impl PartialEq for Words {
 impl Eq for Words {
     ghost laws = { nat_list_eq_equiv };
 }
+
+#[cfg(test)]
+mod tests {
+    use super::*;
+    use std::test::Fail;
+
+    #[test]
+    fn orders_bytes_as_texts(rt: HostRuntime) -> Result<(), Fail> {
+        let short = Bytes::of(rt.alloc(), b"ab")?;
+        let long = Bytes::of(rt.alloc(), b"abc")?;
+        assert_eq!(rt; short.cmp(&long), Ordering::Less);
+        assert_eq!(rt; long.clone()?, long);
+        Ok(())
+    }
+}

@@ -209,3 +209,80 @@ fn with_signs(is_negative: bool, units: i128, size: Ordering) -> Ordering
         if units < 0 { Ordering::Greater } else { size }
     }
 }
+
+#[cfg(test)]
+mod tests {
+    use super::*;
+    use std::alloc::{AllocError, Global};
+    use std::test::Fail;
+
+    /// A one among zeros: so many before it, behind it, and between the point and a last digit.
+    fn one_among_zeros(
+        alloc: Global,
+        before: usize,
+        behind: usize,
+        places: usize,
+        last: u8,
+    ) -> Result<Vec<u8>, AllocError> {
+        let mut text = Vec::new(alloc);
+        for _ in 0..before {
+            text.push(b'0')?;
+        }
+        text.push(b'1')?;
+        for _ in 0..behind {
+            text.push(b'0')?;
+        }
+        text.push(b'.')?;
+        for _ in 0..places {
+            text.push(b'0')?;
+        }
+        text.push(last)?;
+        Ok(text)
+    }
+
+    fn scan_in_pieces(text: &[u8], size: usize) -> NumberScan
+        requires { 0 < size }
+    {
+        let mut scan = NumberScan::start();
+        for piece in text.chunks(size) {
+            scan.take(piece);
+        }
+        scan
+    }
+
+    #[test]
+    fn compares_any_number_of_digits_in_any_pieces(rt: HostRuntime) -> Result<(), Fail> {
+        let one = Decimal::of_digits(false, b"1", b"");
+        let most = Decimal::of_digits(false, b"999999999999999999", b"999999999999999999");
+        for whole in [0, 17, 18, 39, 99_999] {
+            let against_most = if whole < 18 {
+                Ordering::Less
+            } else {
+                Ordering::Greater
+            };
+            for fraction in [0, 17, 18, 39, 99_999] {
+                let equal = one_among_zeros(rt.alloc(), whole, 0, fraction, b'0')?;
+                let above = one_among_zeros(rt.alloc(), whole, 0, fraction, b'1')?;
+                let large = one_among_zeros(rt.alloc(), 0, whole, fraction, b'0')?;
+                for size in [1, 7, 4_096] {
+                    assert_eq!(rt;
+                        scan_in_pieces(&equal, size).cmp(&one),
+                        Some(Ordering::Equal),
+                        "{whole} {fraction} {size}"
+                    );
+                    assert_eq!(rt;
+                        scan_in_pieces(&above, size).cmp(&one),
+                        Some(Ordering::Greater),
+                        "{whole} {fraction} {size}"
+                    );
+                    assert_eq!(rt;
+                        scan_in_pieces(&large, size).cmp(&most),
+                        Some(against_most),
+                        "{whole} {fraction} {size}"
+                    );
+                }
+            }
+        }
+        Ok(())
+    }
+}
