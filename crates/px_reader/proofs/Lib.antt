@@ -1,0 +1,12 @@
+pub mod MachineLaws
+pub mod Begins
+pub mod Rows
+pub mod Unique
+pub mod LineCuts
+pub mod Verdicts
+pub mod Runs
+pub mod Depths
+pub mod Judged
+pub mod Prefixes
+pub mod Steps
+pub mod Spaces

@@ -1,0 +1,334 @@
+-- How bytes are cut into lines, and lines across pieces.
+use Rattle.std.proofs.Common.{◌≡◌, ℕ, zero, suc, ◌+◌, ◌≤◌, ◌<◌, Bool, true, false, ◌&&◌, not, List, [], ◌∷◌, ◌++◌, length, get_or, take, ◌-◌, refl, ap, sym, ◌∙◌, ◌==◌, if◌then◌else◌, inl, inr, ◌⊎◌, cond, IsUtf8, ◌↔◌, append_assoc, append-nil, length-append, arith}
+use Rattle.std.specs.Str.{IsAscii}
+use Rattle.std.specs.List.{list_all, concat, sum_by, count_by}
+use Rattle.std.proofs.lemmas.Bool.Decides.{eqb_tells}
+use Rattle.std.proofs.lemmas.List.{take-append-le, take_at, take_all, take_more, length_push}
+use Rattle.std.proofs.lemmas.List.Sums.{sum_by-cons}
+use Rattle.std.proofs.lemmas.Str.{IsUtf8-append, IsUtf8-take, IsCharBoundary-at_seam, IsUtf8-from_ascii}
+use Rattle.px_reader.specs.Lines.{lines_of, onto_first, without_end}
+
+-- no line feed is among the bytes
+abbrev pub has_no_feed : List ℕ → Bool
+has_no_feed = list_all (λ b. not (b == 10))
+
+-- the bytes end with a line feed, or are none
+abbrev pub is_whole : List ℕ → Bool
+is_whole [] = true
+is_whole (b ∷ []) = b == 10
+is_whole (b ∷ c ∷ bytes) = is_whole (c ∷ bytes)
+
+-- the only line feed of the line is its last byte
+abbrev pub is_ended : List ℕ → Bool
+is_ended [] = false
+is_ended (b ∷ []) = b == 10
+is_ended (b ∷ c ∷ line) = not (b == 10) && is_ended (c ∷ line)
+
+-- the bytes without the CR that they may end with
+abbrev pub without_cr : List ℕ → List ℕ
+without_cr [] = []
+without_cr (b ∷ []) = if b == 13 then [] else b ∷ []
+without_cr (b ∷ c ∷ rest) = b ∷ without_cr (c ∷ rest)
+
+both_parts : (a b : Bool) → (a && b) ≡ true → (a ≡ true) × (b ≡ true)
+both_parts true b e = (refl, e)
+both_parts false b e = absurd (cc)
+
+both : {a b : Bool} → a ≡ true → b ≡ true → (a && b) ≡ true
+both p q = rw (p, q)
+
+not_true : (b : Bool) → not b ≡ true → b ≡ false
+not_true false h = refl
+not_true true h = absurd (cc)
+
+-- there is a line, and a byte before the first line leaves the others
+has_line : (a : List ℕ) → (line : List ℕ) × (lines : List (List ℕ)) × (lines_of (a ++ 10 ∷ []) ≡ line ∷ lines)
+has_line [] = (10 ∷ [], [], refl)
+has_line (x ∷ a) = let (line, lines, e) = has_line a in with_test (x == 10) line lines e
+  where
+    with_test : (t : Bool) (line : List ℕ) (lines : List (List ℕ)) → lines_of (a ++ 10 ∷ []) ≡ line ∷ lines →
+        (line : List ℕ) × (lines : List (List ℕ)) × ((if t then (10 ∷ []) ∷ lines_of (a ++ 10 ∷ []) else onto_first x (lines_of (a ++ 10 ∷ []))) ≡ line ∷ lines)
+    with_test true line lines e = (10 ∷ [], lines_of (a ++ 10 ∷ []), refl)
+    with_test false line lines e = (x ∷ line, lines, rw e refl)
+
+-- bytes behind a line feed begin a line
+pub lines_ended : (a b : List ℕ) → lines_of (a ++ 10 ∷ b) ≡ lines_of (a ++ 10 ∷ []) ++ lines_of b
+lines_ended [] b = refl
+lines_ended (x ∷ a) b = let (line, lines, e) = has_line a in with_test (x == 10) line lines e (lines_ended a b)
+  where
+    with_test : (t : Bool) (line : List ℕ) (lines : List (List ℕ)) → lines_of (a ++ 10 ∷ []) ≡ line ∷ lines → lines_of (a ++ 10 ∷ b) ≡ lines_of (a ++ 10 ∷ []) ++ lines_of b →
+        (if t then (10 ∷ []) ∷ lines_of (a ++ 10 ∷ b) else onto_first x (lines_of (a ++ 10 ∷ b)))
+        ≡ (if t then (10 ∷ []) ∷ lines_of (a ++ 10 ∷ []) else onto_first x (lines_of (a ++ 10 ∷ []))) ++ lines_of b
+    with_test true line lines e ih = ap (λ ls. (10 ∷ []) ∷ ls) ih
+    with_test false line lines e ih = rw (ih, e) refl
+
+-- whole bytes are none, or have a line feed at their end
+pub whole_ends : (bytes : List ℕ) → is_whole bytes ≡ true → (bytes ≡ []) ⊎ ((front : List ℕ) × (bytes ≡ front ++ 10 ∷ []))
+whole_ends [] w = inl refl
+whole_ends (b ∷ []) w = elim (eqb_tells b 10) [ inl p ↦ inr ([], ap (λ x. x ∷ []) p.1) | inr p ↦ absurd (let f : false ≡ true = sym p.0 ∙ w in cc) ]
+whole_ends (b ∷ c ∷ bytes) w = on (whole_ends (c ∷ bytes) w)
+  where
+    on : ((c ∷ bytes) ≡ []) ⊎ ((front : List ℕ) × ((c ∷ bytes) ≡ front ++ 10 ∷ [])) → ((b ∷ c ∷ bytes) ≡ []) ⊎ ((front : List ℕ) × ((b ∷ c ∷ bytes) ≡ front ++ 10 ∷ []))
+    on (inl e) = absurd (cc)
+    on (inr (front, e)) = inr (b ∷ front, ap (λ bs. b ∷ bs) e)
+
+pub whole_ended : (front : List ℕ) → is_whole (front ++ 10 ∷ []) ≡ true
+whole_ended [] = refl
+whole_ended (b ∷ []) = refl
+whole_ended (b ∷ c ∷ front) = whole_ended (c ∷ front)
+
+-- whole bytes and a line with its line feed are whole
+pub whole_push : (bytes line : List ℕ) → is_whole (bytes ++ (line ++ 10 ∷ [])) ≡ true
+whole_push bytes line = rw (← (append_assoc bytes line (10 ∷ []))) (whole_ended (bytes ++ line))
+
+-- bytes behind whole bytes begin a line
+pub lines_whole : (a b : List ℕ) → is_whole a ≡ true → lines_of (a ++ b) ≡ lines_of a ++ lines_of b
+lines_whole a b w = on (whole_ends a w)
+  where
+    on : (a ≡ []) ⊎ ((front : List ℕ) × (a ≡ front ++ 10 ∷ [])) → lines_of (a ++ b) ≡ lines_of a ++ lines_of b
+    on (inl e) = rw e refl
+    on (inr (front, e)) = rw (e, append_assoc front (10 ∷ []) b) (lines_ended front b)
+
+-- bytes without a line feed are one line
+pub open_line : (bytes : List ℕ) → has_no_feed bytes ≡ true → 0 < length bytes → lines_of bytes ≡ bytes ∷ []
+open_line [] n some = absurd (omega arith)
+open_line (b ∷ []) n some = rw (not_true (b == 10) (both_parts (not (b == 10)) true n).0) refl
+open_line (b ∷ c ∷ bytes) n some =
+    let p = both_parts (not (b == 10)) (has_no_feed (c ∷ bytes)) n in
+    rw (not_true (b == 10) p.0, open_line (c ∷ bytes) p.1 (omega arith)) refl
+
+-- a byte that is no line feed stands at the front of the first line
+onto : (b : ℕ) (bytes : List ℕ) → not (b == 10) ≡ true → lines_of (b ∷ bytes) ≡ onto_first b (lines_of bytes)
+onto b bytes n = rw (not_true (b == 10) n) refl
+
+-- bytes without a line feed begin the first line of all that has them in front
+pub begun_line : (bytes more : List ℕ) → has_no_feed bytes ≡ true → 0 < length bytes →
+    (line : List ℕ) × (lines : List (List ℕ)) × (lines_of (bytes ++ more) ≡ (bytes ++ line) ∷ lines)
+begun_line [] more n some = absurd (omega arith)
+begun_line (b ∷ []) more n some = on (lines_of more) refl
+  where
+    on : (ls : List (List ℕ)) → lines_of more ≡ ls → (line : List ℕ) × (lines : List (List ℕ)) × (lines_of (b ∷ more) ≡ (b ∷ line) ∷ lines)
+    on [] e = ([], [], onto b more (both_parts (not (b == 10)) true n).0 ∙ ap (onto_first b) e)
+    on (line ∷ lines) e = (line, lines, onto b more (both_parts (not (b == 10)) true n).0 ∙ ap (onto_first b) e)
+begun_line (b ∷ c ∷ bytes) more n some =
+    let p = both_parts (not (b == 10)) (has_no_feed (c ∷ bytes)) n in
+    let (line, lines, e) = begun_line (c ∷ bytes) more p.1 (omega arith) in
+    (line, lines, onto b (c ∷ bytes ++ more) p.0 ∙ ap (onto_first b) e)
+
+-- a line up to its line feed
+pub lines_one : (line : List ℕ) → has_no_feed line ≡ true → lines_of (line ++ 10 ∷ []) ≡ (line ++ 10 ∷ []) ∷ []
+lines_one [] n = refl
+lines_one (b ∷ line) n =
+    let p = both_parts (not (b == 10)) (has_no_feed line) n in
+    onto b (line ++ 10 ∷ []) p.0 ∙ ap (onto_first b) (lines_one line p.1)
+
+-- a line up to its line feed, and whatever comes behind it
+pub one_line : (line more : List ℕ) → has_no_feed line ≡ true → lines_of (line ++ 10 ∷ more) ≡ (line ++ 10 ∷ []) ∷ lines_of more
+one_line line more n = lines_ended line more ∙ ap (λ ls. ls ++ lines_of more) (lines_one line n)
+
+-- one more line behind whole bytes, and whatever comes behind it
+pub lines_behind : (bytes line more : List ℕ) → is_whole bytes ≡ true → has_no_feed line ≡ true →
+    lines_of (bytes ++ ((line ++ 10 ∷ []) ++ more)) ≡ lines_of bytes ++ (line ++ 10 ∷ []) ∷ lines_of more
+lines_behind bytes line more w n =
+    lines_whole bytes ((line ++ 10 ∷ []) ++ more) w
+    ∙ ap (λ ls. lines_of bytes ++ ls) (lines_whole (line ++ 10 ∷ []) more (whole_ended line) ∙ ap (λ ls. ls ++ lines_of more) (lines_one line n))
+
+pub lines_push : (bytes line : List ℕ) → is_whole bytes ≡ true → has_no_feed line ≡ true →
+    lines_of (bytes ++ (line ++ 10 ∷ [])) ≡ lines_of bytes ++ (line ++ 10 ∷ []) ∷ []
+lines_push bytes line w n = lines_whole bytes (line ++ 10 ∷ []) w ∙ ap (λ ls. lines_of bytes ++ ls) (lines_one line n)
+
+-- the last line, where no line feed ends it
+pub lines_last : (bytes line : List ℕ) → is_whole bytes ≡ true → has_no_feed line ≡ true → 0 < length line →
+    lines_of (bytes ++ line) ≡ lines_of bytes ++ line ∷ []
+lines_last bytes line w n some = lines_whole bytes line w ∙ ap (λ ls. lines_of bytes ++ ls) (open_line line n some)
+
+-- a line that is not ended yet, behind whole bytes, and whatever comes behind what is known of it
+pub lines_open : (bytes line more : List ℕ) → is_whole bytes ≡ true → has_no_feed line ≡ true → 0 < length line →
+    (rest : List ℕ) × (lines : List (List ℕ)) × (lines_of ((bytes ++ line) ++ more) ≡ lines_of bytes ++ (line ++ rest) ∷ lines)
+lines_open bytes line more w n some =
+    let (rest, lines, e) = begun_line line more n some in
+    (rest, lines, ap lines_of (append_assoc bytes line more) ∙ lines_whole bytes (line ++ more) w ∙ ap (λ ls. lines_of bytes ++ ls) e)
+
+concat-onto_first : (b : ℕ) (lines : List (List ℕ)) → concat (onto_first b lines) ≡ b ∷ concat lines
+concat-onto_first b [] = refl
+concat-onto_first b (line ∷ lines) = refl
+
+-- the lines joined are the bytes
+pub concat-lines_of : (bytes : List ℕ) → concat (lines_of bytes) ≡ bytes
+concat-lines_of [] = refl
+concat-lines_of (b ∷ bytes) = on (eqb_tells b 10) (concat-lines_of bytes)
+  where
+    on : ((b == 10) ≡ true) × (b ≡ 10) ⊎ ((b == 10) ≡ false) × (b ≡ 10 → ⊥) → concat (lines_of bytes) ≡ bytes → concat (lines_of (b ∷ bytes)) ≡ b ∷ bytes
+    on (inl p) e = rw (p.1, e) refl
+    on (inr p) e = rw (p.0, concat-onto_first b (lines_of bytes)) (ap (λ bs. b ∷ bs) e)
+
+pub length-concat : (lines : List (List ℕ)) → sum_by length lines ≡ length (concat lines)
+length-concat [] = refl
+length-concat (line ∷ lines) = sum_by-cons length line lines ∙ ap (λ n. length line + n) (length-concat lines) ∙ sym (length-append line (concat lines))
+
+-- the lines have as many bytes as the bytes
+pub sizes : (bytes : List ℕ) → sum_by length (lines_of bytes) ≡ length bytes
+sizes bytes = length-concat (lines_of bytes) ∙ ap length (concat-lines_of bytes)
+
+-- an ended line is bytes without a line feed, and one line feed
+pub ended_is : (line : List ℕ) → is_ended line ≡ true → (front : List ℕ) × (has_no_feed front ≡ true) × (line ≡ front ++ 10 ∷ [])
+ended_is [] e = absurd (cc)
+ended_is (b ∷ []) e = elim (eqb_tells b 10) [ inl p ↦ ([], refl, ap (λ x. x ∷ []) p.1) | inr p ↦ absurd (let f : false ≡ true = sym p.0 ∙ e in cc) ]
+ended_is (b ∷ c ∷ line) e =
+    let p = both_parts (not (b == 10)) (is_ended (c ∷ line)) e in
+    let (front, n, same) = ended_is (c ∷ line) p.1 in
+    (b ∷ front, both p.0 n, ap (λ bs. b ∷ bs) same)
+
+pub ended_made : (front : List ℕ) → has_no_feed front ≡ true → is_ended (front ++ 10 ∷ []) ≡ true
+ended_made [] n = refl
+ended_made (b ∷ []) n = both (both_parts (not (b == 10)) true n).0 refl
+ended_made (b ∷ c ∷ front) n =
+    let p = both_parts (not (b == 10)) (has_no_feed (c ∷ front)) n in both p.0 (ended_made (c ∷ front) p.1)
+
+-- ended lines are the lines of their bytes
+pub lines_of-concat : (lines : List (List ℕ)) (rest : List ℕ) → list_all is_ended lines ≡ true → lines_of (concat lines ++ rest) ≡ lines ++ lines_of rest
+lines_of-concat [] rest h = refl
+lines_of-concat (line ∷ lines) rest h =
+    let p = both_parts (is_ended line) (list_all is_ended lines) h in
+    let (front, n, e) = ended_is line p.0 in
+    ap lines_of (append_assoc line (concat lines) rest) ∙ rw e (lines_behind [] front (concat lines ++ rest) refl n ∙ ap (λ ls. (front ++ 10 ∷ []) ∷ ls) (lines_of-concat lines rest p.1))
+
+-- the first lines of more lines
+pub take_lines : (lines more : List (List ℕ)) (k : ℕ) → k ≤ length lines → take k (lines ++ more) ≡ take k lines
+take_lines lines more k l = take-append-le k lines more l
+
+pub take_next : (lines : List (List ℕ)) (line : List ℕ) (more : List (List ℕ)) → take (length lines + 1) (lines ++ line ∷ more) ≡ lines ++ line ∷ []
+take_next lines line more =
+    ap (take (length lines + 1)) (sym (append_assoc lines (line ∷ []) more)) ∙ take_at (lines ++ line ∷ []) more (length lines + 1) (length_push lines line)
+
+some_line : (b : ℕ) (bytes : List ℕ) → 0 < length (lines_of (b ∷ bytes))
+some_line b bytes = on (b == 10) (lines_of bytes)
+  where
+    on : (t : Bool) (lines : List (List ℕ)) → 0 < length (if t then (10 ∷ []) ∷ lines else onto_first b lines)
+    on true lines = omega arith
+    on false [] = omega arith
+    on false (line ∷ lines) = omega arith
+
+length-onto_first : (b : ℕ) (lines : List (List ℕ)) → 0 < length lines → length (onto_first b lines) ≡ length lines
+length-onto_first b [] some = absurd (omega arith)
+length-onto_first b (line ∷ lines) some = refl
+
+count_more : (b : ℕ) (bytes : List ℕ) → count_by (λ b. b == 10) (b ∷ bytes) ≡ cond (b == 10) 1 0 + count_by (λ b. b == 10) bytes
+count_more b bytes = sum_by-cons (λ (x : ℕ). cond (x == 10) 1 0) b bytes
+
+-- whole bytes have as many lines as line feeds
+pub count-lines_of : (bytes : List ℕ) → is_whole bytes ≡ true → length (lines_of bytes) ≡ count_by (λ b. b == 10) bytes
+count-lines_of [] w = refl
+count-lines_of (b ∷ []) w = rw w refl
+count-lines_of (b ∷ c ∷ bytes) w = on (b == 10) refl (count-lines_of (c ∷ bytes) w) (some_line c bytes) ∙ sym (count_more b (c ∷ bytes))
+  where
+    on : (t : Bool) → (b == 10) ≡ t → length (lines_of (c ∷ bytes)) ≡ count_by (λ b. b == 10) (c ∷ bytes) → 0 < length (lines_of (c ∷ bytes)) →
+        length (if t then (10 ∷ []) ∷ lines_of (c ∷ bytes) else onto_first b (lines_of (c ∷ bytes))) ≡ cond t 1 0 + count_by (λ b. b == 10) (c ∷ bytes)
+    on true e ih some = omega (arith, ih)
+    on false e ih some = omega (arith, ih, length-onto_first b (lines_of (c ∷ bytes)) some)
+
+-- what an ended line is without its end
+pub without_end-feed : (line : List ℕ) → without_end (line ++ 10 ∷ []) ≡ without_cr line
+without_end-feed [] = refl
+without_end-feed (b ∷ []) = refl
+without_end-feed (b ∷ c ∷ []) = refl
+without_end-feed (b ∷ c ∷ d ∷ line) = ap (λ bs. b ∷ bs) (without_end-feed (c ∷ d ∷ line))
+
+-- a line that no line feed ends is all of it
+pub without_end-open : (line : List ℕ) → has_no_feed line ≡ true → without_end line ≡ line
+without_end-open [] n = refl
+without_end-open (b ∷ []) n = rw (not_true (b == 10) (both_parts (not (b == 10)) true n).0) refl
+without_end-open (b ∷ c ∷ []) n =
+    let p = both_parts (not (b == 10)) (not (c == 10) && true) n in
+    rw (not_true (c == 10) (both_parts (not (c == 10)) true p.1).0) refl
+without_end-open (b ∷ c ∷ d ∷ line) n =
+    ap (λ bs. b ∷ bs) (without_end-open (c ∷ d ∷ line) (both_parts (not (b == 10)) (has_no_feed (c ∷ d ∷ line)) n).1)
+
+pub without_cr-cr : (line : List ℕ) → without_cr (line ++ 13 ∷ []) ≡ line
+without_cr-cr [] = refl
+without_cr-cr (b ∷ []) = refl
+without_cr-cr (b ∷ c ∷ line) = ap (λ bs. b ∷ bs) (without_cr-cr (c ∷ line))
+
+pub without_cr-other : (line : List ℕ) (b : ℕ) → (b == 13) ≡ false → without_cr (line ++ b ∷ []) ≡ line ++ b ∷ []
+without_cr-other [] b n = rw n refl
+without_cr-other (c ∷ []) b n = rw n refl
+without_cr-other (c ∷ d ∷ line) b n = ap (λ bs. c ∷ bs) (without_cr-other (d ∷ line) b n)
+
+-- an ended line with no CR before its line feed
+pub without_end-other : (front : List ℕ) (b : ℕ) → (b == 13) ≡ false → without_end (front ++ b ∷ 10 ∷ []) ≡ front ++ b ∷ []
+without_end-other front b n = ap without_end (sym (append_assoc front (b ∷ []) (10 ∷ []))) ∙ without_end-feed (front ++ b ∷ []) ∙ without_cr-other front b n
+
+-- an ended line with a CR before its line feed
+pub without_end-cr : (line : List ℕ) → without_end (line ++ 13 ∷ 10 ∷ []) ≡ line
+without_end-cr line = ap without_end (sym (append_assoc line (13 ∷ []) (10 ∷ []))) ∙ without_end-feed (line ++ 13 ∷ []) ∙ without_cr-cr line
+
+-- the same by the line's last byte
+pub without_end-no_cr : (line : List ℕ) → (get_or line (length line - 1) 0 ≡ 13 → ⊥) → without_end (line ++ 10 ∷ []) ≡ line
+without_end-no_cr line n = without_end-feed line ∙ on line n
+  where
+    last : (b c : ℕ) (rest : List ℕ) → get_or (c ∷ rest) (length (c ∷ rest) - 1) 0 ≡ 13 → get_or (b ∷ c ∷ rest) (length (b ∷ c ∷ rest) - 1) 0 ≡ 13
+    last b c rest e =
+        let m : length (b ∷ c ∷ rest) - 1 ≡ suc (length (c ∷ rest) - 1) = omega arith in
+        rw m e
+
+    on : (line : List ℕ) → (get_or line (length line - 1) 0 ≡ 13 → ⊥) → without_cr line ≡ line
+    on [] n = refl
+    on (b ∷ []) n = elim (eqb_tells b 13) [ inl p ↦ absurd (n p.1) | inr p ↦ rw p.0 refl ]
+    on (b ∷ c ∷ rest) n = ap (λ bs. b ∷ bs) (on (c ∷ rest) (λ e. n (last b c rest e)))
+
+pub without_end-last_cr : (line : List ℕ) → 0 < length line → get_or line (length line - 1) 0 ≡ 13 → without_end (line ++ 10 ∷ []) ≡ take (length line - 1) line
+without_end-last_cr line some e =
+    let n : length line - 1 < length line = omega arith in
+    let m : length line - 1 + 1 ≡ length line = omega arith in
+    let t : take (length line - 1 + 1) line ≡ take (length line - 1) line ++ get_or line (length line - 1) 0 ∷ [] = take_more line (length line - 1) 0 n in
+    let whole : line ≡ take (length line - 1) line ++ 13 ∷ [] = sym (take_all (length line) line (omega arith)) ∙ ap (λ k. take k line) (sym m) ∙ t ∙ ap (λ b. take (length line - 1) line ++ b ∷ []) e in
+    without_end-feed line ∙ ap without_cr whole ∙ without_cr-cr (take (length line - 1) line)
+
+-- at most the CR goes
+pub length-without_cr : (line : List ℕ) → (length (without_cr line) ≤ length line) × (length line ≤ length (without_cr line) + 1)
+length-without_cr [] = (omega arith, omega arith)
+length-without_cr (b ∷ []) = on (b == 13)
+  where
+    on : (t : Bool) → (length (if t then [] else b ∷ []) ≤ length (b ∷ [])) × (length (b ∷ []) ≤ length (if t then [] else b ∷ []) + 1)
+    on true = (omega arith, omega arith)
+    on false = (omega arith, omega arith)
+length-without_cr (b ∷ c ∷ line) = let ih = length-without_cr (c ∷ line) in (omega (arith, ih.0), omega (arith, ih.1))
+
+-- a line without its end is no longer
+pub length_without_end : (line : List ℕ) → length (without_end line) ≤ length line
+length_without_end [] = omega arith
+length_without_end (b ∷ []) = on (b == 10)
+  where
+    on : (t : Bool) → length (if t then [] else b ∷ []) ≤ length (b ∷ [])
+    on true = omega arith
+    on false = omega arith
+length_without_end (b ∷ c ∷ []) = on (c == 10) (b == 13)
+  where
+    on : (t s : Bool) → length (if t then (if s then [] else b ∷ []) else b ∷ c ∷ []) ≤ length (b ∷ c ∷ [])
+    on true true = omega arith
+    on true false = omega arith
+    on false s = omega arith
+length_without_end (b ∷ c ∷ d ∷ line) = let ih = length_without_end (c ∷ d ∷ line) in omega (arith, ih)
+
+-- a line's end has at most two bytes
+pub take_long : (line : List ℕ) → length line ≤ length (without_end line) + 2
+take_long [] = omega arith
+take_long (b ∷ []) = omega arith
+take_long (b ∷ c ∷ []) = omega arith
+take_long (b ∷ c ∷ d ∷ line) = let ih = take_long (c ∷ d ∷ line) in omega (arith, ih)
+
+-- the line feed changes nothing for UTF-8
+pub utf8-feed : (line : List ℕ) → IsUtf8 line ↔ IsUtf8 (line ++ 10 ∷ [])
+utf8-feed line = (
+  λ u. IsUtf8-append line (10 ∷ []) u feed,
+  λ u.
+      let b = IsCharBoundary-at_seam (line ++ 10 ∷ []) line (10 ∷ []) refl feed in
+      rw take_at at (IsUtf8-take (line ++ 10 ∷ []) (length line) u b),
+)
+  where
+    ascii : IsAscii (10 ∷ [])
+    ascii zero = omega arith
+    ascii (suc i) = omega arith
+
+    feed : IsUtf8 (10 ∷ [])
+    feed = IsUtf8-from_ascii (10 ∷ []) ascii

@@ -1,0 +1,13 @@
+//! Documents: PYX lines to the events of the tree that they spell, or to the first fault.
+//!
+//! `specs/` says which lines spell which tree, and what the verdict on some bytes is. A [`Reader`]
+//! is fed the bytes in any pieces and gives the events; a [`Doc`] holds bytes that spell a tree.
+#![tactic(auto)]
+
+mod cuts;
+mod event;
+mod fault;
+mod machine;
+
+pub use event::Event;
+pub use fault::{DocFault, DocKind, ReaderFault};
