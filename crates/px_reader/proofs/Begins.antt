@@ -1,5 +1,7 @@
 -- Lines begin a document while the machine goes on.
 use Rattle.std.proofs.Common.{◌≡◌, ℕ, Bool, true, false, ◌&&◌, ◌||◌, not, List, [], ◌∷◌, ◌++◌, map, refl, ap, ◌∙◌, subst, Option, Some, None, IsSome, ◌↔◌, option_and_then, if◌then◌else◌, ◌==◌}
+use Rattle.std.proofs.lemmas.Bool.{and_parts}
+use Rattle.std.specs.Cmp.Derive.{both_true}
 use Rattle.std.proofs.Common.{inl, inr}
 use Rattle.std.proofs.lemmas.List.{map-append}
 use Rattle.std.proofs.lemmas.Bool.Decides.{eqb_tells}
@@ -14,6 +16,8 @@ use Rattle.px_reader.specs.Lines.{is_outside}
 use Rattle.std.proofs.Common.{bytes_eq}
 use Rattle.px_reader.specs.declared.event.Event.TheVariants.{Attr}
 use Rattle.px_reader.specs.Machine.{State, Before, Attributes, Inside, After, Step, step, step_inside, closed, text_event, reaches}
+use Rattle.px_reader.proofs.LineCuts.{without_end-open}
+use Rattle.px_reader.specs.Lines.{has_no_feed}
 use Rattle.px_reader.proofs.MachineLaws.{spelt_accepted, accepted_spells, reached, reaching, closers, can_end, guard_some, fails_some, from_some}
 
 solid-append : (a b : List Line) → solid (a ++ b) ≡ solid a ++ solid b
@@ -40,13 +44,6 @@ opens_named : Line → Bool
 opens_named (Opens name) = is_pyx_name name
 opens_named _ = true
 
-both_parts : (a b : Bool) → (a && b) ≡ true → (a ≡ true) × (b ≡ true)
-both_parts true b e = (refl, e)
-both_parts false b e = absurd (cc)
-
-both : {a b : Bool} → a ≡ true → b ≡ true → (a && b) ≡ true
-both p q = rw (p, q)
-
 on_if : (P : Line → Type 0) (b : Bool) (x y : Line) → P x → P y → P (if b then x else y)
 on_if P true x y p q = p
 on_if P false x y p q = q
@@ -56,23 +53,10 @@ no_line_feed : (b : ℕ) → continues_name b ≡ true → not (b == 10) ≡ tru
 no_line_feed b h =
     elim (eqb_tells b 10) [ inl p ↦ absurd (let f : continues_name 10 ≡ true = subst (λ n. continues_name n ≡ true) p.1 h in cc) | inr p ↦ rw p.0 refl ]
 
-name_has_none : (bytes : List ℕ) → list_all continues_name bytes ≡ true → list_all (λ b. not (b == 10)) bytes ≡ true
+name_has_none : (bytes : List ℕ) → list_all continues_name bytes ≡ true → has_no_feed bytes ≡ true
 name_has_none [] h = refl
 name_has_none (b ∷ bytes) h =
-    let p = both_parts (continues_name b) (list_all continues_name bytes) h in both (no_line_feed b p.0) (name_has_none bytes p.1)
-
-not_true : (b : Bool) → not b ≡ true → b ≡ false
-not_true false h = refl
-not_true true h = absurd (cc)
-
-keeps : (bytes : List ℕ) → list_all (λ b. not (b == 10)) bytes ≡ true → without_end bytes ≡ bytes
-keeps [] h = refl
-keeps (b ∷ []) h = rw (not_true (b == 10) (both_parts (not (b == 10)) true h).0) refl
-keeps (b ∷ c ∷ []) h =
-    let p = both_parts (not (b == 10)) (not (c == 10) && true) h in
-    rw (not_true (c == 10) (both_parts (not (c == 10)) true p.1).0) refl
-keeps (b ∷ c ∷ d ∷ rest) h =
-    ap (λ bs. b ∷ bs) (keeps (c ∷ d ∷ rest) (both_parts (not (b == 10)) (list_all (λ b. not (b == 10)) (c ∷ d ∷ rest)) h).1)
+    let p = and_parts (continues_name b) (list_all continues_name bytes) h in both_true (no_line_feed b p.0) (name_has_none bytes p.1)
 
 weaker : (a b c d e : Bool) → (a || e) ≡ true → (((a || b) || c) || d || e) ≡ true
 weaker true b c d e h = refl
@@ -84,8 +68,8 @@ weaker false false false false e h = h
 pyx_name_keeps : (b : ℕ) (name : List ℕ) → not (b == 10) ≡ true → is_pyx_name name ≡ true → without_end (b ∷ name) ≡ b ∷ name
 pyx_name_keeps b [] h p = absurd (cc)
 pyx_name_keeps b (c ∷ name) h p =
-    let q = both_parts (begins_name c) (list_all continues_name name) p in
-    keeps (b ∷ c ∷ name) (both h (name_has_none (c ∷ name) (both (begins_continues c q.0) q.1)))
+    let q = and_parts (begins_name c) (list_all continues_name name) p in
+    without_end-open (b ∷ c ∷ name) (both_true h (name_has_none (c ∷ name) (both_true (begins_continues c q.0) q.1)))
   where
     begins_continues : (c : ℕ) → begins_name c ≡ true → continues_name c ≡ true
     begins_continues c e = weaker (begins_part c) (is_digit c) (c == 45) (c == 46) (c == 58) e
@@ -117,17 +101,17 @@ opens_lines lines = solid_named (map (λ line. line_of (without_end line)) lines
   where
     each : (lines : List (List ℕ)) → list_all opens_named (map (λ line. line_of (without_end line)) lines) ≡ true
     each [] = refl
-    each (line ∷ lines) = both (opens_line (without_end line)) (each lines)
+    each (line ∷ lines) = both_true (opens_line (without_end line)) (each lines)
 
     solid_named : (lines : List Line) → list_all opens_named lines ≡ true → list_all opens_named (solid lines) ≡ true
     solid_named [] h = refl
-    solid_named (Empty ∷ lines) h = solid_named lines (both_parts (opens_named Empty) (list_all opens_named lines) h).1
-    solid_named (Opens name ∷ lines) h = let p = both_parts (opens_named (Opens name)) (list_all opens_named lines) h in both p.0 (solid_named lines p.1)
-    solid_named (Closes name ∷ lines) h = let p = both_parts (opens_named (Closes name)) (list_all opens_named lines) h in both p.0 (solid_named lines p.1)
-    solid_named (Gives name value ∷ lines) h = let p = both_parts (opens_named (Gives name value)) (list_all opens_named lines) h in both p.0 (solid_named lines p.1)
-    solid_named (Says text ∷ lines) h = let p = both_parts (opens_named (Says text)) (list_all opens_named lines) h in both p.0 (solid_named lines p.1)
-    solid_named (Passed ∷ lines) h = let p = both_parts (opens_named Passed) (list_all opens_named lines) h in both p.0 (solid_named lines p.1)
-    solid_named (Odd ∷ lines) h = let p = both_parts (opens_named Odd) (list_all opens_named lines) h in both p.0 (solid_named lines p.1)
+    solid_named (Empty ∷ lines) h = solid_named lines (and_parts (opens_named Empty) (list_all opens_named lines) h).1
+    solid_named (Opens name ∷ lines) h = let p = and_parts (opens_named (Opens name)) (list_all opens_named lines) h in both_true p.0 (solid_named lines p.1)
+    solid_named (Closes name ∷ lines) h = let p = and_parts (opens_named (Closes name)) (list_all opens_named lines) h in both_true p.0 (solid_named lines p.1)
+    solid_named (Gives name value ∷ lines) h = let p = and_parts (opens_named (Gives name value)) (list_all opens_named lines) h in both_true p.0 (solid_named lines p.1)
+    solid_named (Says text ∷ lines) h = let p = and_parts (opens_named (Says text)) (list_all opens_named lines) h in both_true p.0 (solid_named lines p.1)
+    solid_named (Passed ∷ lines) h = let p = and_parts (opens_named Passed) (list_all opens_named lines) h in both_true p.0 (solid_named lines p.1)
+    solid_named (Odd ∷ lines) h = let p = and_parts (opens_named Odd) (list_all opens_named lines) h in both_true p.0 (solid_named lines p.1)
 
 closed_named : (outer : List (List ℕ)) → list_all is_pyx_name outer ≡ true → are_named (closed outer) ≡ true
 unfolding are_named
@@ -137,11 +121,11 @@ closed_named (name ∷ outer) h = h
 inside_named : (text name : List ℕ) (outer : List (List ℕ)) (line : Line) (found : Step) → step_inside text name outer line ≡ Some found →
     (is_pyx_name name && list_all is_pyx_name outer) ≡ true → opens_named line ≡ true → are_named found.0 ≡ true
 unfolding are_named opens_named
-inside_named text name outer (Opens child) found e n h = from_some (λ f. are_named f.0 ≡ true) _ found e (both h n)
+inside_named text name outer (Opens child) found e n h = from_some (λ f. are_named f.0 ≡ true) _ found e (both_true h n)
 inside_named text name outer (Closes closing) found e n h =
     let g = guard_some (bytes_eq closing name) (closed outer, text_event text ++ End ∷ []) found e in
     let P : Step → Type 0 = λ f. are_named f.0 ≡ true in
-    subst P g.1 (closed_named outer (both_parts (is_pyx_name name) (list_all is_pyx_name outer) n).1)
+    subst P g.1 (closed_named outer (and_parts (is_pyx_name name) (list_all is_pyx_name outer) n).1)
 inside_named text name outer (Gives _ _) found e n h = absurd (cc)
 inside_named text name outer (Says more) found e n h = from_some (λ f. are_named f.0 ≡ true) _ found e n
 inside_named text name outer Passed found e n h = from_some (λ f. are_named f.0 ≡ true) _ found e n
@@ -150,7 +134,7 @@ inside_named text name outer Odd found e n h = absurd (cc)
 
 step_named : (state : State) (line : Line) (found : Step) → step state line ≡ Some found → are_named state ≡ true → opens_named line ≡ true → are_named found.0 ≡ true
 unfolding are_named opens_named
-step_named Before (Opens name) found e n h = from_some (λ f. are_named f.0 ≡ true) _ found e (both h refl)
+step_named Before (Opens name) found e n h = from_some (λ f. are_named f.0 ≡ true) _ found e (both_true h refl)
 step_named Before line found e n h =
     let g = guard_some (is_outside line) (Before, []) found e in
     let P : Step → Type 0 = λ f. are_named f.0 ≡ true in
@@ -169,7 +153,7 @@ step_named After line found e n h =
 reaches_named : (lines : List Line) (state found : State) → reaches state lines ≡ Some found → are_named state ≡ true → list_all opens_named lines ≡ true → are_named found ≡ true
 reaches_named [] state found e n h = let same : state ≡ found = cc in subst (λ s. are_named s ≡ true) same n
 reaches_named (line ∷ lines) state found e n h =
-    let p = both_parts (opens_named line) (list_all opens_named lines) h in
+    let p = and_parts (opens_named line) (list_all opens_named lines) h in
     from (step state line) refl e p.0 (λ next q. reaches_named lines next found q) p.1
   where
     from : (s : Option Step) → step state line ≡ s → option_and_then (λ next. reaches next.0 lines) s ≡ Some found → opens_named line ≡ true →
@@ -188,7 +172,7 @@ closing_lines After = []
 closing_kinds : (names : List (List ℕ)) → list_all is_pyx_name names ≡ true → kinds (map closing_line names) ≡ map Closes names
 closing_kinds [] h = refl
 closing_kinds (name ∷ names) h =
-    let p = both_parts (is_pyx_name name) (list_all is_pyx_name names) h in
+    let p = and_parts (is_pyx_name name) (list_all is_pyx_name names) h in
     rw (closes_line name p.0) (ap (λ ls. Closes name ∷ ls) (closing_kinds names p.1))
 
 closing_are : (state : State) → are_named state ≡ true → kinds (closing_lines state) ≡ closers state

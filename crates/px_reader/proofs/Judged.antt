@@ -1,5 +1,6 @@
 -- What one more line does to lines that have no fault, and the verdict where it ends.
-use Rattle.std.proofs.Common.{◌≡◌, ℕ, zero, suc, ◌+◌, ◌<◌, ◌≤◌, List, [], ◌∷◌, ◌++◌, length, take, refl, ap, sym, ◌∙◌, subst, Option, Some, None, IsSome, IsUtf8, ◌⊎◌, inl, inr, option_and_then, append-nil, length-append, add-one, arith}
+use Rattle.std.proofs.Common.{◌≡◌, ℕ, zero, suc, ◌+◌, ◌<◌, ◌≤◌, List, [], ◌∷◌, ◌++◌, length, take, refl, ap, sym, ◌∙◌, subst, Option, Some, None, IsSome, IsUtf8, ◌⊎◌, inl, inr, append-nil, length-append, add-one, arith}
+use Rattle.std.proofs.lemmas.Option.{same_Some}
 use Rattle.std.specs.List.{slice_get, sum_by}
 use Rattle.std.proofs.lemmas.List.{take-take, take_at, length_push}
 use Rattle.std.proofs.lemmas.List.Sums.{sum_by_push}
@@ -7,15 +8,15 @@ use Rattle.px_text.specs.Nodes.{Root}
 use Rattle.px_reader.specs.declared.event.Event.{Event}
 use Rattle.px_reader.specs.declared.fault.DocKind.{DocKind}
 use Rattle.px_reader.specs.declared.fault.DocKind.TheVariants.{NotHere, NotUtf8, LineLong, TooDeep, TooManyAttributes, TooBig, Truncated}
-use Rattle.px_reader.specs.Lines.{Line, Empty, line_of, without_end, solid, lines_of}
+use Rattle.px_reader.specs.Lines.{Empty, line_of, without_end, solid}
 use Rattle.px_reader.specs.Spelling.{Spells, kinds, events_of}
-use Rattle.px_reader.specs.Machine.{State, Before, Attributes, Inside, After, Step, step, reaches, accepts, runs, open_in, attributes_in}
+use Rattle.px_reader.specs.Machine.{State, Before, Attributes, Inside, After, step, reaches, accepts, runs, open_in, attributes_in}
 use Rattle.px_reader.specs.Judged.{Judged}
-use Rattle.px_reader.specs.Verdicts.{Begins, depth, attributes_behind, Shows, rank, IsFine, IsFaulty, IsTree, Judges, HasVerdict}
+use Rattle.px_reader.specs.Verdicts.{Begins, depth, attributes_behind, Shows, rank, IsFine, IsFaulty, IsTree, Judges}
 use Rattle.px_reader.proofs.MachineLaws.{accepted_spells, spelt_accepted, reached}
 use Rattle.px_reader.proofs.Begins.{begins_iff, kinds-append}
-use Rattle.px_reader.proofs.LineCuts.{has_no_feed, is_whole, take_lines, take_next, lines_behind, lines_open, sizes}
-use Rattle.px_reader.proofs.Runs.{runs_one, runs-append, runs_reaches, reaches-append, accepts-append, solid_one, step_same}
+use Rattle.px_reader.proofs.LineCuts.{take_lines, take_next}
+use Rattle.px_reader.proofs.Runs.{runs_one, runs-append, runs_reaches, reaches-append, accepts-append, solid_one}
 use Rattle.px_reader.proofs.Depths.{depth_is, attributes_are}
 
 slice_get-take : (lines : List (List ℕ)) (k : ℕ) → slice_get (take (suc k) lines) k ≡ slice_get lines k
@@ -57,10 +58,6 @@ Breaks lines line TooDeep = 512 < depth (kinds (lines ++ line ∷ []))
 Breaks lines line TooManyAttributes = 256 < attributes_behind 0 (kinds (lines ++ line ∷ []))
 Breaks lines line Truncated = ⊥
 
--- the line that stands at the place behind the lines
-same_text : (line found : List ℕ) → Some line ≡ Some found → line ≡ found
-same_text line found e = cc
-
 pub breaks_shows : (lines : List (List ℕ)) (line : List ℕ) (more : List (List ℕ)) (kind : DocKind) →
     Breaks lines line kind → Shows (lines ++ line ∷ more) (length lines) kind
 breaks_shows lines line more TooBig b =
@@ -80,9 +77,9 @@ shows_breaks lines line more TooBig s =
     let t = subst (λ ls. 16_777_216 < sum_by length ls) (take_next lines line more) s in
     rw sum_by_push at t
 shows_breaks lines line more LineLong (found, at, long) =
-    subst (λ l. 1_048_576 < length (without_end l)) (sym (same_text line found (sym (slice_get-at lines line more) ∙ at))) long
+    subst (λ l. 1_048_576 < length (without_end l)) (sym (same_Some line found (sym (slice_get-at lines line more) ∙ at))) long
 shows_breaks lines line more NotUtf8 (found, at, bad) =
-    subst (λ l. IsUtf8 l → ⊥) (sym (same_text line found (sym (slice_get-at lines line more) ∙ at))) bad
+    subst (λ l. IsUtf8 l → ⊥) (sym (same_Some line found (sym (slice_get-at lines line more) ∙ at))) bad
 shows_breaks lines line more NotHere (begun, ends) =
     (subst Begins (take_at lines (line ∷ more) (length lines) refl) begun, λ b. ends (subst Begins (sym (take_next lines line more)) b))
 shows_breaks lines line more TooDeep s = subst (λ ls. 512 < depth (kinds ls)) (take_next lines line more) s
@@ -269,9 +266,6 @@ judged_many lines state given line more new brought j size long utf8 n s deep ma
     judged_fault lines line more TooManyAttributes j.fine (over 256 (attributes_behind 0 whole) (attributes_in new) (attributes_are whole new (given ++ brought) led) many)
     (λ other r. none_below lines line other 5 r (λ _. size) (λ _. long) (λ _. utf8) (λ _. here) (λ _. depth_ok) (omega arith))
 
-some_same : (a b : State) → Some a ≡ Some b → a ≡ b
-some_same a b e = cc
-
 -- the document has ended too early
 pub judged_truncated : (lines : List (List ℕ)) (state : State) (given : List Event) → Judged lines state given → (state ≡ After → ⊥) → Judges lines (IsFaulty (length lines) Truncated)
 judged_truncated lines state given j early = (j.fine, none, refl)
@@ -286,7 +280,7 @@ judged_truncated lines state given j early = (j.fine, none, refl)
     none root d =
         let a = spelt_accepted (kinds lines) root d in
         let r = reached (kinds lines) [] Before (events_of root) (rw append-nil a) in
-        let same : r.0 ≡ state = some_same r.0 state (sym r.2 ∙ runs_reaches (kinds lines) Before state given j.led) in
+        let same : r.0 ≡ state = same_Some r.0 state (sym r.2 ∙ runs_reaches (kinds lines) Before state given j.led) in
         early (sym same ∙ accepted r.0 r.1 r.3)
 
 -- the document has ended

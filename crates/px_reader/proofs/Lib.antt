@@ -8,5 +8,13 @@ pub mod Runs
 pub mod Depths
 pub mod Judged
 pub mod Prefixes
+pub mod Pieces
+pub mod Decided
 pub mod Steps
 pub mod Spaces
+pub mod Kept
+pub mod Ends
+pub mod Feeds
+pub mod Taken
+pub mod Readings
+pub mod Feeding

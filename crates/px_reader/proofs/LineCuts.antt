@@ -1,45 +1,20 @@
 -- How bytes are cut into lines, and lines across pieces.
-use Rattle.std.proofs.Common.{◌≡◌, ℕ, zero, suc, ◌+◌, ◌≤◌, ◌<◌, Bool, true, false, ◌&&◌, not, List, [], ◌∷◌, ◌++◌, length, get_or, take, ◌-◌, refl, ap, sym, ◌∙◌, ◌==◌, if◌then◌else◌, inl, inr, ◌⊎◌, cond, IsUtf8, ◌↔◌, append_assoc, append-nil, length-append, arith}
+use Rattle.std.proofs.Common.{◌≡◌, ℕ, zero, suc, ◌+◌, ◌≤◌, ◌<◌, Bool, true, false, ◌&&◌, not, List, [], ◌∷◌, ◌++◌, length, get_or, take, ◌-◌, refl, ap, sym, ◌∙◌, ◌==◌, if◌then◌else◌, inl, inr, ◌⊎◌, cond, IsUtf8, ◌↔◌, append_assoc, length-append, arith}
+use Rattle.std.proofs.lemmas.Bool.{and_parts, not-true}
+use Rattle.std.specs.Cmp.Derive.{both_true}
 use Rattle.std.specs.Str.{IsAscii}
 use Rattle.std.specs.List.{list_all, concat, sum_by, count_by}
 use Rattle.std.proofs.lemmas.Bool.Decides.{eqb_tells}
 use Rattle.std.proofs.lemmas.List.{take-append-le, take_at, take_all, take_more, length_push}
 use Rattle.std.proofs.lemmas.List.Sums.{sum_by-cons}
 use Rattle.std.proofs.lemmas.Str.{IsUtf8-append, IsUtf8-take, IsCharBoundary-at_seam, IsUtf8-from_ascii}
-use Rattle.px_reader.specs.Lines.{lines_of, onto_first, without_end}
-
--- no line feed is among the bytes
-abbrev pub has_no_feed : List ℕ → Bool
-has_no_feed = list_all (λ b. not (b == 10))
-
--- the bytes end with a line feed, or are none
-abbrev pub is_whole : List ℕ → Bool
-is_whole [] = true
-is_whole (b ∷ []) = b == 10
-is_whole (b ∷ c ∷ bytes) = is_whole (c ∷ bytes)
-
--- the only line feed of the line is its last byte
-abbrev pub is_ended : List ℕ → Bool
-is_ended [] = false
-is_ended (b ∷ []) = b == 10
-is_ended (b ∷ c ∷ line) = not (b == 10) && is_ended (c ∷ line)
+use Rattle.px_reader.specs.Lines.{has_no_feed, is_whole, is_ended, lines_of, onto_first, without_end}
 
 -- the bytes without the CR that they may end with
 abbrev pub without_cr : List ℕ → List ℕ
 without_cr [] = []
 without_cr (b ∷ []) = if b == 13 then [] else b ∷ []
 without_cr (b ∷ c ∷ rest) = b ∷ without_cr (c ∷ rest)
-
-both_parts : (a b : Bool) → (a && b) ≡ true → (a ≡ true) × (b ≡ true)
-both_parts true b e = (refl, e)
-both_parts false b e = absurd (cc)
-
-both : {a b : Bool} → a ≡ true → b ≡ true → (a && b) ≡ true
-both p q = rw (p, q)
-
-not_true : (b : Bool) → not b ≡ true → b ≡ false
-not_true false h = refl
-not_true true h = absurd (cc)
 
 -- there is a line, and a byte before the first line leaves the others
 has_line : (a : List ℕ) → (line : List ℕ) × (lines : List (List ℕ)) × (lines_of (a ++ 10 ∷ []) ≡ line ∷ lines)
@@ -92,14 +67,14 @@ lines_whole a b w = on (whole_ends a w)
 -- bytes without a line feed are one line
 pub open_line : (bytes : List ℕ) → has_no_feed bytes ≡ true → 0 < length bytes → lines_of bytes ≡ bytes ∷ []
 open_line [] n some = absurd (omega arith)
-open_line (b ∷ []) n some = rw (not_true (b == 10) (both_parts (not (b == 10)) true n).0) refl
+open_line (b ∷ []) n some = rw (not-true (b == 10) (and_parts (not (b == 10)) true n).0) refl
 open_line (b ∷ c ∷ bytes) n some =
-    let p = both_parts (not (b == 10)) (has_no_feed (c ∷ bytes)) n in
-    rw (not_true (b == 10) p.0, open_line (c ∷ bytes) p.1 (omega arith)) refl
+    let p = and_parts (not (b == 10)) (has_no_feed (c ∷ bytes)) n in
+    rw (not-true (b == 10) p.0, open_line (c ∷ bytes) p.1 (omega arith)) refl
 
 -- a byte that is no line feed stands at the front of the first line
 onto : (b : ℕ) (bytes : List ℕ) → not (b == 10) ≡ true → lines_of (b ∷ bytes) ≡ onto_first b (lines_of bytes)
-onto b bytes n = rw (not_true (b == 10) n) refl
+onto b bytes n = rw (not-true (b == 10) n) refl
 
 -- bytes without a line feed begin the first line of all that has them in front
 pub begun_line : (bytes more : List ℕ) → has_no_feed bytes ≡ true → 0 < length bytes →
@@ -108,10 +83,10 @@ begun_line [] more n some = absurd (omega arith)
 begun_line (b ∷ []) more n some = on (lines_of more) refl
   where
     on : (ls : List (List ℕ)) → lines_of more ≡ ls → (line : List ℕ) × (lines : List (List ℕ)) × (lines_of (b ∷ more) ≡ (b ∷ line) ∷ lines)
-    on [] e = ([], [], onto b more (both_parts (not (b == 10)) true n).0 ∙ ap (onto_first b) e)
-    on (line ∷ lines) e = (line, lines, onto b more (both_parts (not (b == 10)) true n).0 ∙ ap (onto_first b) e)
+    on [] e = ([], [], onto b more (and_parts (not (b == 10)) true n).0 ∙ ap (onto_first b) e)
+    on (line ∷ lines) e = (line, lines, onto b more (and_parts (not (b == 10)) true n).0 ∙ ap (onto_first b) e)
 begun_line (b ∷ c ∷ bytes) more n some =
-    let p = both_parts (not (b == 10)) (has_no_feed (c ∷ bytes)) n in
+    let p = and_parts (not (b == 10)) (has_no_feed (c ∷ bytes)) n in
     let (line, lines, e) = begun_line (c ∷ bytes) more p.1 (omega arith) in
     (line, lines, onto b (c ∷ bytes ++ more) p.0 ∙ ap (onto_first b) e)
 
@@ -119,7 +94,7 @@ begun_line (b ∷ c ∷ bytes) more n some =
 pub lines_one : (line : List ℕ) → has_no_feed line ≡ true → lines_of (line ++ 10 ∷ []) ≡ (line ++ 10 ∷ []) ∷ []
 lines_one [] n = refl
 lines_one (b ∷ line) n =
-    let p = both_parts (not (b == 10)) (has_no_feed line) n in
+    let p = and_parts (not (b == 10)) (has_no_feed line) n in
     onto b (line ++ 10 ∷ []) p.0 ∙ ap (onto_first b) (lines_one line p.1)
 
 -- a line up to its line feed, and whatever comes behind it
@@ -175,21 +150,21 @@ pub ended_is : (line : List ℕ) → is_ended line ≡ true → (front : List �
 ended_is [] e = absurd (cc)
 ended_is (b ∷ []) e = elim (eqb_tells b 10) [ inl p ↦ ([], refl, ap (λ x. x ∷ []) p.1) | inr p ↦ absurd (let f : false ≡ true = sym p.0 ∙ e in cc) ]
 ended_is (b ∷ c ∷ line) e =
-    let p = both_parts (not (b == 10)) (is_ended (c ∷ line)) e in
+    let p = and_parts (not (b == 10)) (is_ended (c ∷ line)) e in
     let (front, n, same) = ended_is (c ∷ line) p.1 in
-    (b ∷ front, both p.0 n, ap (λ bs. b ∷ bs) same)
+    (b ∷ front, both_true p.0 n, ap (λ bs. b ∷ bs) same)
 
 pub ended_made : (front : List ℕ) → has_no_feed front ≡ true → is_ended (front ++ 10 ∷ []) ≡ true
 ended_made [] n = refl
-ended_made (b ∷ []) n = both (both_parts (not (b == 10)) true n).0 refl
+ended_made (b ∷ []) n = both_true (and_parts (not (b == 10)) true n).0 refl
 ended_made (b ∷ c ∷ front) n =
-    let p = both_parts (not (b == 10)) (has_no_feed (c ∷ front)) n in both p.0 (ended_made (c ∷ front) p.1)
+    let p = and_parts (not (b == 10)) (has_no_feed (c ∷ front)) n in both_true p.0 (ended_made (c ∷ front) p.1)
 
 -- ended lines are the lines of their bytes
 pub lines_of-concat : (lines : List (List ℕ)) (rest : List ℕ) → list_all is_ended lines ≡ true → lines_of (concat lines ++ rest) ≡ lines ++ lines_of rest
 lines_of-concat [] rest h = refl
 lines_of-concat (line ∷ lines) rest h =
-    let p = both_parts (is_ended line) (list_all is_ended lines) h in
+    let p = and_parts (is_ended line) (list_all is_ended lines) h in
     let (front, n, e) = ended_is line p.0 in
     ap lines_of (append_assoc line (concat lines) rest) ∙ rw e (lines_behind [] front (concat lines ++ rest) refl n ∙ ap (λ ls. (front ++ 10 ∷ []) ∷ ls) (lines_of-concat lines rest p.1))
 
@@ -208,6 +183,33 @@ some_line b bytes = on (b == 10) (lines_of bytes)
     on true lines = omega arith
     on false [] = omega arith
     on false (line ∷ lines) = omega arith
+
+-- of whole lines, one more line and whatever comes behind it, the first lines are known
+pub take_known : (lines : List (List ℕ)) (line more : List ℕ) (k : ℕ) → list_all is_ended lines ≡ true → is_ended line ≡ true → k ≤ length lines + 1 →
+    take k (lines_of (concat lines ++ (line ++ more))) ≡ take k (lines ++ line ∷ [])
+take_known lines line more k h e l =
+    let (front, n, same) = ended_is line e in
+    let one : lines_of (line ++ more) ≡ line ∷ lines_of more = rw same (lines_behind [] front more refl n) in
+    let m : k ≤ length (lines ++ line ∷ []) = rw length_push l in
+    ap (take k) (lines_of-concat lines (line ++ more) h ∙ ap (λ ls. lines ++ ls) one ∙ sym (append_assoc lines (line ∷ []) (lines_of more)))
+    ∙ take_lines (lines ++ line ∷ []) (lines_of more) k m
+
+-- the lines of whole bytes are ended
+pub lines_of-ended : (bytes : List ℕ) → is_whole bytes ≡ true → list_all is_ended (lines_of bytes) ≡ true
+lines_of-ended [] w = refl
+lines_of-ended (b ∷ []) w = rw w refl
+lines_of-ended (b ∷ c ∷ bytes) w = on (b == 10) refl (lines_of (c ∷ bytes)) (some_line c bytes) (lines_of-ended (c ∷ bytes) w)
+  where
+    longer : (b : ℕ) (line : List ℕ) → (b == 10) ≡ false → is_ended line ≡ true → is_ended (b ∷ line) ≡ true
+    longer b [] n e = absurd (cc)
+    longer b (c ∷ line) n e = rw (n, e) refl
+
+    on : (t : Bool) → (b == 10) ≡ t → (lines : List (List ℕ)) → 0 < length lines → list_all is_ended lines ≡ true →
+        list_all is_ended (if t then (10 ∷ []) ∷ lines else onto_first b lines) ≡ true
+    on true n lines some h = h
+    on false n [] some h = absurd (omega arith)
+    on false n (line ∷ lines) some h =
+        let p = and_parts (is_ended line) (list_all is_ended lines) h in both_true (longer b line n p.0) p.1
 
 length-onto_first : (b : ℕ) (lines : List (List ℕ)) → 0 < length lines → length (onto_first b lines) ≡ length lines
 length-onto_first b [] some = absurd (omega arith)
@@ -237,12 +239,12 @@ without_end-feed (b ∷ c ∷ d ∷ line) = ap (λ bs. b ∷ bs) (without_end-fe
 -- a line that no line feed ends is all of it
 pub without_end-open : (line : List ℕ) → has_no_feed line ≡ true → without_end line ≡ line
 without_end-open [] n = refl
-without_end-open (b ∷ []) n = rw (not_true (b == 10) (both_parts (not (b == 10)) true n).0) refl
+without_end-open (b ∷ []) n = rw (not-true (b == 10) (and_parts (not (b == 10)) true n).0) refl
 without_end-open (b ∷ c ∷ []) n =
-    let p = both_parts (not (b == 10)) (not (c == 10) && true) n in
-    rw (not_true (c == 10) (both_parts (not (c == 10)) true p.1).0) refl
+    let p = and_parts (not (b == 10)) (not (c == 10) && true) n in
+    rw (not-true (c == 10) (and_parts (not (c == 10)) true p.1).0) refl
 without_end-open (b ∷ c ∷ d ∷ line) n =
-    ap (λ bs. b ∷ bs) (without_end-open (c ∷ d ∷ line) (both_parts (not (b == 10)) (has_no_feed (c ∷ d ∷ line)) n).1)
+    ap (λ bs. b ∷ bs) (without_end-open (c ∷ d ∷ line) (and_parts (not (b == 10)) (has_no_feed (c ∷ d ∷ line)) n).1)
 
 pub without_cr-cr : (line : List ℕ) → without_cr (line ++ 13 ∷ []) ≡ line
 without_cr-cr [] = refl

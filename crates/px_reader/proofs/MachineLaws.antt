@@ -1,5 +1,7 @@
 -- What the machine accepts is what spells a document.
 use Rattle.std.proofs.Common.{◌≡◌, ℕ, Bool, true, false, ◌&&◌, not, List, [], ◌∷◌, ◌++◌, map, refl, ap, sym, ◌∙◌, subst, Option, Some, None, option_and_then, option_map, append_assoc, append-nil, arith, bytes_eq, if◌then◌else◌}
+use Rattle.std.proofs.lemmas.Bool.{and_parts}
+use Rattle.std.specs.Cmp.Derive.{both_true}
 use Rattle.std.specs.List.{list_all, concat}
 use Rattle.std.specs.Cmp.Lexicographic.{same_text}
 use Rattle.std.proofs.lemmas.Slice.Eq.{bytes_eq-Decides}
@@ -19,9 +21,6 @@ guard_some false x y e = absurd (cc)
 pub fails_some : {A : Type 0} (b : Bool) (x y : A) → (if b then None else Some x) ≡ Some y → (b ≡ false) × (x ≡ y)
 fails_some false x y e = (refl, cc)
 fails_some true x y e = absurd (cc)
-
-both : {a b : Bool} → a ≡ true → b ≡ true → (a && b) ≡ true
-both p q = rw (p, q)
 
 -- what ends the document behind the body of an element, and the elements round it
 abbrev pub Outer : List (List ℕ) → List Line → List Event → Type 0
@@ -144,7 +143,7 @@ attributes_end : (names : List (List ℕ)) (name : List ℕ) (outer : List (List
 attributes_end names name outer lines evs c = ([], lines, evs, refl, refl, c, refl)
 
 outside_more : (line : Line) (lines : List Line) (more : List Event) → is_outside line ≡ true → FromBefore lines more → FromBefore (line ∷ lines) more
-outside_more line lines more h (before, name, behind, m, l, o, c, e) = (line ∷ before, name, behind, m, ap (λ ls. line ∷ ls) l, both h o, c, e)
+outside_more line lines more h (before, name, behind, m, l, o, c, e) = (line ∷ before, name, behind, m, ap (λ ls. line ∷ ls) l, both_true h o, c, e)
 
 -- what a line leaves, and the line before it
 derive : (state : State) (line : Line) (lines : List Line) (found : Step) (more : List Event) →
@@ -160,14 +159,14 @@ derive (Attributes names name outer) (Gives given value) lines found more e c =
     let g = fails_some (is_among given names) (Attributes (given ∷ names) name outer, Attr given value ∷ []) found e in
     let P : Step → Type 0 = λ f. Completes f.0 lines more → FromAttributes names name outer (Gives given value ∷ lines) (f.1 ++ more) in
     subst P g.1
-    (λ k. (record { name = given; value = value } ∷ k.0, k.1, k.2, ap (λ ls. Gives given value ∷ ls) k.3, both (ap not g.0) k.4, k.5, ap (λ es. Attr given value ∷ es) k.6)) c
+    (λ k. (record { name = given; value = value } ∷ k.0, k.1, k.2, ap (λ ls. Gives given value ∷ ls) k.3, both_true (ap not g.0) k.4, k.5, ap (λ es. Attr given value ∷ es) k.6)) c
 derive (Attributes names name outer) line lines found more e c =
     attributes_end names name outer (line ∷ lines) (found.1 ++ more) (derive_inside [] name outer line lines found more e c)
 derive (Inside text name outer) line lines found more e c = derive_inside text name outer line lines found more e c
 derive After line lines found more e c =
     let g = guard_some (is_outside line) (After, []) found e in
     let P : Step → Type 0 = λ f. Completes f.0 lines more → (list_all is_outside (line ∷ lines) ≡ true) × (f.1 ++ more ≡ []) in
-    subst P g.1 (λ k. (both g.0 k.0, k.1)) c
+    subst P g.1 (λ k. (both_true g.0 k.0, k.1)) c
 
 -- What is accepted has a first step, and is accepted from there.
 pub record Goes (state : State) (line : Line) (lines : List Line) (evs : List Event) : Type 0 where
@@ -213,7 +212,7 @@ accepted_spells lines evs e =
     spelt : FromBefore lines evs → (root : Root) × IsDocument lines root × (evs ≡ events_of root)
     spelt (before, name, behind, m, l, o, (attributes, body, m2, l2, d, (nodes, rest, m3, r, outer, e3), e2), e1) = (
       record { name = name; attributes = attributes; children = nodes },
-      record { before = before; body = body; after = rest; whole = l ∙ ap (λ ls. before ++ Opens name ∷ ls) l2; differ = d; children = run_body r; outside = both o outer.0 },
+      record { before = before; body = body; after = rest; whole = l ∙ ap (λ ls. before ++ Opens name ∷ ls) l2; differ = d; children = run_body r; outside = both_true o outer.0 },
       rw (e1, e2, e3, outer.1) refl,
     )
 
@@ -308,26 +307,22 @@ outside_step Passed h = (refl, refl)
 outside_step Empty h = absurd (cc)
 outside_step Odd h = absurd (cc)
 
-both_parts : (a b : Bool) → (a && b) ≡ true → (a ≡ true) × (b ≡ true)
-both_parts true b e = (refl, e)
-both_parts false b e = absurd (cc)
-
 after_runs : (lines : List Line) → list_all is_outside lines ≡ true → accepts After lines ≡ Some []
 after_runs [] h = refl
 after_runs (line ∷ lines) h =
-    let p = both_parts (is_outside line) (list_all is_outside lines) h in
+    let p = and_parts (is_outside line) (list_all is_outside lines) h in
     rw ((outside_step line p.0).1, after_runs lines p.1) refl
 
 before_runs : (before lines : List Line) (evs : List Event) → list_all is_outside before ≡ true → accepts Before lines ≡ Some evs → accepts Before (before ++ lines) ≡ Some evs
 before_runs [] lines evs h e = e
 before_runs (line ∷ before) lines evs h e =
-    let p = both_parts (is_outside line) (list_all is_outside before) h in
+    let p = and_parts (is_outside line) (list_all is_outside before) h in
     rw ((outside_step line p.0).0, before_runs before lines evs p.1 e) refl
 
 -- what spells a tree is accepted, with the tree's events
 pub spelt_accepted : (lines : List Line) (root : Root) → IsDocument lines root → accepts Before lines ≡ Some (events_of root)
 spelt_accepted lines root d =
-    let o = both_parts (list_all is_outside d.before) (list_all is_outside d.after) d.outside in
+    let o = and_parts (list_all is_outside d.before) (list_all is_outside d.after) d.outside in
     let inner : accepts (Inside [] root.name []) d.body ≡ Some (events root.children ++ End ∷ []) =
     body_runs d.children [] root.name [] (End ∷ []) (λ _. refl) (closing root.name [] d.after [] (after_runs d.after o.1)) in
     let run : accepts (Attributes [] root.name []) (gives root.attributes ++ d.body) ≡ Some (map attribute_event root.attributes ++ (events root.children ++ End ∷ [])) =

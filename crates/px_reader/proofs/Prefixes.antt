@@ -1,9 +1,9 @@
 -- Events that were given begin those of some tree, and are few.
-use Rattle.std.proofs.Common.{◌≡◌, ℕ, suc, ◌+◌, ◌<◌, ◌≤◌, Bool, List, [], ◌∷◌, ◌++◌, length, map, refl, ap, sym, ◌∙◌, subst, Some, length-append, arith, bytes_eq}
+use Rattle.std.proofs.Common.{◌≡◌, ℕ, suc, ◌+◌, ◌≤◌, List, [], ◌∷◌, ◌++◌, length, map, refl, ap, sym, ◌∙◌, subst, Some, length-append, arith, bytes_eq}
 use Rattle.std.specs.List.{sum_by}
 use Rattle.std.proofs.lemmas.List.Sums.{sum_by-cons}
 use Rattle.px_reader.specs.declared.event.Event.{Event}
-use Rattle.px_reader.specs.declared.event.Event.TheVariants.{Start, Attr, End}
+use Rattle.px_reader.specs.declared.event.Event.TheVariants.{Attr, End}
 use Rattle.px_reader.specs.Lines.{Line, Opens, Closes, Gives, Says, Passed, Empty, Odd, is_outside, lines_of, line_of, without_end, solid}
 use Rattle.px_reader.specs.Spelling.{is_among, kinds}
 use Rattle.px_reader.specs.Machine.{State, Before, Attributes, Inside, After, Step, step, step_inside, closed, text_event, runs}
@@ -21,7 +21,7 @@ given_begins lines state given e =
     (t.0, c.0, sym t.2)
 
 -- whether a text waits for the end of its run
-abbrev waiting : State → ℕ
+abbrev pub waiting : State → ℕ
 waiting (Inside text name outer) = length (text_event text)
 waiting _ = 0
 

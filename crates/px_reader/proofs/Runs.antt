@@ -2,7 +2,7 @@
 use Rattle.std.proofs.Common.{◌≡◌, List, [], ◌∷◌, ◌++◌, refl, ap, sym, ◌∙◌, Option, Some, None, option_and_then, option_map, append_assoc, append-nil}
 use Rattle.px_reader.specs.declared.event.Event.{Event}
 use Rattle.px_reader.specs.Lines.{Line, Opens, Closes, Gives, Says, Passed, Empty, Odd, solid}
-use Rattle.px_reader.specs.Machine.{State, Before, Attributes, Inside, After, Step, step, accepts, reaches, runs}
+use Rattle.px_reader.specs.Machine.{State, Step, step, accepts, reaches, runs}
 use Rattle.px_reader.proofs.MachineLaws.{accepted_from}
 
 -- one step by its state and its events

@@ -5,3 +5,4 @@ pub mod Spelling
 pub mod Verdicts
 pub mod Judged
 pub mod States
+pub mod Reading

@@ -1,5 +1,5 @@
 -- The state that the reader's machine is in, and what a line does to it.
-use Rattle.std.specs.Prelude.{◌≡◌, ℕ, ◌<◌, Bool, true, false, List, [], ◌∷◌, ◌++◌, reverse, Option, Some, None, Result, Ok, Err}
+use Rattle.std.specs.Prelude.{◌≡◌, ℕ, ◌<◌, ◌≤◌, length, IsUtf8, Bool, true, false, List, [], ◌∷◌, ◌++◌, reverse, Option, Some, None, Result, Ok, Err}
 use Rattle.px_reader.specs.declared.event.Event.{Event}
 use Rattle.px_reader.specs.declared.fault.DocKind.{DocKind}
 use Rattle.px_reader.specs.declared.fault.DocKind.TheVariants.{NotHere, NotUtf8, LineLong, TooDeep, TooManyAttributes, TooBig, Truncated}
@@ -8,7 +8,7 @@ use Rattle.px_reader.specs.declared.fault.LineFault.TheVariants.{Kind, LineMemor
 use Rattle.px_reader.specs.declared.machine.Machine.{Machine}
 use Rattle.px_reader.specs.declared.machine.Phase.{Phase}
 use Rattle.px_reader.specs.declared.machine.Phase.TheVariants.{Start, Giving, Body}
-use Rattle.px_reader.specs.Lines.{Line, Opens, Closes, Gives, Says, Passed, Empty, Odd}
+use Rattle.px_reader.specs.Lines.{Line, line_of, without_end, Opens, Closes, Gives, Says, Passed, Empty, Odd}
 use Rattle.px_reader.specs.Machine.{State, Before, Attributes, Inside, After, Step, step, open_in, attributes_in}
 
 -- the text of the run that is open
@@ -78,3 +78,23 @@ abbrev pub Takes : State → Line → Result (Unit {0}) LineFault → State → 
 Takes old line (Ok _) new before behind =
     HasRoom old line × ((brought : List Event) × (line_step old line ≡ Some (new, brought)) × (behind ≡ before ++ brought))
 Takes old line (Err fault) new before behind = Refuses old line fault × (behind ≡ before)
+
+-- a line with its end is not too long, and is text
+abbrev pub IsFit : List ℕ → Type 0
+IsFit line = (length (without_end line) ≤ 1_048_576) × IsUtf8 line
+
+-- a line with its end may not stand behind the state, for this reason
+abbrev pub Bars : State → List ℕ → LineFault → Type 0
+Bars state line (Kind LineLong) = 1_048_576 < length (without_end line)
+Bars state line (Kind NotUtf8) = (length (without_end line) ≤ 1_048_576) × (IsUtf8 line → ⊥)
+Bars state line (Kind NotHere) = IsFit line × Refuses state (line_of (without_end line)) (Kind NotHere)
+Bars state line (Kind TooDeep) = IsFit line × Refuses state (line_of (without_end line)) (Kind TooDeep)
+Bars state line (Kind TooManyAttributes) = IsFit line × Refuses state (line_of (without_end line)) (Kind TooManyAttributes)
+Bars state line (Kind TooBig) = ⊥
+Bars state line (Kind Truncated) = ⊥
+Bars state line LineMemory = Unit {0}
+
+-- The line is taken and leads to the new state, or it is barred.
+abbrev pub Judging : State → List ℕ → Result (Unit {0}) LineFault → State → List Event → List Event → Type 0
+Judging old line (Ok taken) new before behind = IsFit line × Takes old (line_of (without_end line)) (Ok taken) new before behind
+Judging old line (Err fault) new before behind = Bars old line fault × (behind ≡ before)

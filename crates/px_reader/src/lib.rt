@@ -6,8 +6,11 @@
 
 mod cuts;
 mod event;
+mod extent;
 mod fault;
 mod machine;
+mod reader;
 
 pub use event::Event;
 pub use fault::{DocFault, DocKind, ReaderFault};
+pub use reader::Reader;

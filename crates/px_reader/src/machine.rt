@@ -1,13 +1,13 @@
 //! What is kept between two lines of a document, and what each line does to it.
 
-ghost use Rattle.std.specs.Prelude.{◌≡◌, ◌++◌, ◌∷◌, [], reverse, vec_len, OnOk, OnErr};
+ghost use Rattle.std.specs.Prelude.{◌≡◌, ◌++◌, ◌∷◌, [], reverse, vec_len, IfOk, OnOk, OnErr};
 ghost use Rattle.px_text.specs.Escapes.{unescaped};
 ghost use Rattle.px_reader.specs.Lines.{Opens, Closes, Gives, Says, Passed, named, line_of, until_space, behind_space, all_white};
-ghost use Rattle.px_reader.specs.Machine.{text_event};
+ghost use Rattle.px_reader.specs.Machine.{Before, text_event};
 ghost use Rattle.px_reader.specs.Spelling.{is_among};
-ghost use Rattle.px_reader.specs.States.{state_of, is_after, is_giving, open_text, Takes};
+ghost use Rattle.px_reader.specs.States.{state_of, is_after, is_giving, open_text, Takes, Judging};
 
-use crate::cuts::split_at_space;
+use crate::cuts::{split_at_space, without_end};
 use crate::event::Event;
 use crate::fault::{DocKind, LineFault};
 use px_text::{Bytes, is_letter, is_pyx_name, is_white, unescape};
@@ -16,6 +16,9 @@ use std::mem;
 
 /// The greatest depth of an element, that of the root being 1.
 const MAX_DEPTH: usize = 512;
+
+/// The most bytes of a line without its end.
+const MAX_LINE: usize = 1_048_576;
 
 /// The most attributes of one element.
 const MAX_ATTRIBUTES: usize = 256;
@@ -44,8 +47,47 @@ pub struct Machine {
 }
 
 impl Machine {
+    /// The machine before a document. It fails only where memory is refused.
+    pub fn new(alloc: Global) -> Result<Machine, AllocError>
+        ensures { IfOk result (λ machine. state_of machine ≡ Before) }
+    {
+        Ok(Machine {
+            phase: Phase::Start,
+            names: Vec::with_capacity(alloc, 16)?,
+            attributes: Vec::new(alloc),
+            text: Vec::new(alloc),
+        })
+    }
+
+    /// Stands before a document again.
+    pub fn clear(&mut self)
+        ensures { state_of self.new ≡ Before }
+    {
+        self.phase = Phase::Start;
+        self.names.clear();
+    }
+
+    /// Judges a line with its end, where it has one, and takes it. At a fault nothing is given.
+    pub fn judge(
+        &mut self,
+        alloc: Global,
+        line: &[u8],
+        out: &mut Vec<Event>,
+    ) -> Result<(), LineFault>
+        ensures { Judging (state_of self.old) line.now result (state_of self.new) out.old.items out.new.items }
+    {
+        let content = without_end(line);
+        if content.len() > MAX_LINE {
+            return Err(LineFault::Kind(DocKind::LineLong));
+        }
+        if str::from_utf8(line).is_err() {
+            return Err(LineFault::Kind(DocKind::NotUtf8));
+        }
+        self.take(alloc, content, out)
+    }
+
     /// Takes a line without its end. At a fault nothing is given.
-    pub fn take(
+    fn take(
         &mut self,
         alloc: Global,
         line: &[u8],
@@ -197,7 +239,8 @@ impl Machine {
         Ok(())
     }
 
-    fn is_behind_root(&self) -> bool
+    /// Whether the root is closed.
+    pub fn is_behind_root(&self) -> bool
         ensures { result ≡ is_after (state_of self.now) }
     {
         self.phase != Phase::Start && self.names.is_empty()

@@ -1,0 +1,13 @@
+-- The lines that have ended are read, and the rest of the piece is left.
+use Rattle.std.proofs.Common.{◌≡◌, ◌++◌, List, ℕ, length}
+use Rattle.px_reader.specs.declared.event.Event.{Event}
+use Rattle.px_reader.specs.declared.reader.Reader.{Reader}
+use Rattle.px_reader.specs.Reading.{HasRead, ReadsOn}
+use Rattle.px_reader.proofs.Feeding.{ReadsTo}
+use Rattle.px_reader.proofs.reader.Reader.take_piece.Given as goal
+
+abbrev pub invariant-loop-feed : goal.invariant-loop-feed
+invariant-loop-feed l = record { same : l.self.fault ≡ l.initial.self.fault; reads : ReadsTo l.initial.self l.self l.piece l.rest l.initial.out.items l.out.items }
+
+abbrev pub decreases-loop-feed : goal.decreases-loop-feed
+decreases-loop-feed l = length l.rest
