@@ -1,6 +1,6 @@
 -- One reading behind another, and what the end of a document shows.
 use Rattle.std.proofs.Common.{◌≡◌, ℕ, ◌<◌, ◌≤◌, Bool, true, false, List, [], ◌++◌, ◌-◌, length, take, drop, refl, ap, sym, ◌∙◌, subst, append_assoc, append-nil, arith, ◌==◌, inl, inr}
-use Rattle.std.proofs.lemmas.List.{length-drop, take_all, take-append-drop}
+use Rattle.std.proofs.lemmas.List.{length-drop, take_all, take-append-drop, nil_from_length}
 use Rattle.std.proofs.lemmas.Bool.Decides.{eqb_tells}
 use Rattle.px_reader.specs.declared.event.Event.{Event}
 use Rattle.px_reader.specs.declared.fault.DocKind.TheVariants.{Truncated}
@@ -10,7 +10,7 @@ use Rattle.px_reader.specs.declared.reader.Reader.{Reader}
 use Rattle.px_reader.specs.Judged.{BeginsTree}
 use Rattle.px_reader.specs.Lines.{lines_of}
 use Rattle.px_reader.specs.Machine.{State, Before, Attributes, Inside, After}
-use Rattle.px_reader.specs.Reading.{Reading, HasRead, IsFirstFault, ReadsOn, ReadsAll, GivesOn, EndsTree}
+use Rattle.px_reader.specs.Reading.{Reading, HasRead, IsFirstFault, IsLastFault, ReadsOn, ReadsAll, GivesOn, EndsTree}
 use Rattle.px_reader.specs.States.{state_of, is_after}
 use Rattle.px_reader.specs.Verdicts.{HasVerdict, IsFaulty}
 use Rattle.px_reader.proofs.Judged.{judged_tree, judged_truncated}
@@ -135,3 +135,33 @@ count_none n t e h = elim (eqb_tells n 0) [ inl p ↦ p.1 | inr p ↦ absurd (le
 
 pub count_some : (n : ℕ) (t : Bool) → t ≡ (n == 0) → t ≡ false → 0 < n
 count_some n t e h = elim (eqb_tells n 0) [ inl p ↦ absurd (let f : false ≡ true = sym h ∙ e ∙ p.0 in cc) | inr p ↦ let k = p.1 in omega arith ]
+
+-- The reader has read the bytes up to the rest.
+pub record HasBegun (reader : Reader) (bytes rest : List ℕ) : Type 0 where
+  pub done : List ℕ
+  pub given : List Event
+  pub bytes_are : bytes ≡ done ++ rest
+  pub read : HasRead reader done given
+
+pub begun_more : (old reader : Reader) (bytes rest piece left : List ℕ) (before behind : List Event) → HasBegun old bytes rest → rest ≡ piece ++ left →
+    ((bytes : List ℕ) (given : List Event) → HasRead old bytes given → ReadsOn reader (bytes ++ piece) given before behind) → HasBegun reader bytes left
+begun_more old reader bytes rest piece left before behind b e on =
+    let (more, f, h) = on b.done b.given b.read in
+    record { done = b.done ++ piece; given = b.given ++ more; bytes_are = b.bytes_are ∙ ap (λ bs. b.done ++ bs) e ∙ sym (append_assoc b.done piece left); read = h }
+
+-- a fault of bytes that go on is the verdict on all of them
+pub begun_fault : (old : Reader) (bytes rest piece left : List ℕ) (fault : ReaderFault) → HasBegun old bytes rest → rest ≡ piece ++ left →
+    ((bytes : List ℕ) (given : List Event) → HasRead old bytes given → IsFirstFault (bytes ++ piece) fault) → IsLastFault bytes fault
+begun_fault old bytes rest piece left Memory b e on = tt
+begun_fault old bytes rest piece left (Doc fault) b e on =
+    let cut : bytes ≡ (b.done ++ piece) ++ left = b.bytes_are ∙ ap (λ bs. b.done ++ bs) e ∙ sym (append_assoc b.done piece left) in
+    subst (λ bs. HasVerdict bs (IsFaulty fault.line fault.kind)) (sym cut) (on b.done b.given b.read left)
+
+-- nothing is left of the bytes
+pub begun_all : (reader : Reader) (bytes rest : List ℕ) → HasBegun reader bytes rest → length rest ≡ 0 → (given : List Event) × HasRead reader bytes given
+begun_all reader bytes rest b none =
+    let same : bytes ≡ b.done = b.bytes_are ∙ ap (λ bs. b.done ++ bs) (nil_from_length rest none) ∙ append-nil b.done in
+    (b.given, subst (λ bs. HasRead reader bs b.given) (sym same) b.read)
+
+pub two_parts : (n : ℕ) (xs front back : List ℕ) → front ≡ take n xs → back ≡ drop n xs → xs ≡ front ++ back
+two_parts n xs front back f b = rw (f, b) (sym (take-append-drop n xs))

@@ -94,19 +94,22 @@ read_line_ok state kept size lines bytes given part taken new before behind r e 
         let within = subst (λ n. n ≤ 16_777_216) (sym (sizes_are state kept size lines bytes given part r)) fits in
         let j = line_taken (lines_of r.ended) state given (r.begun ++ part) new brought r.judged within fit room s in
         let same : lines_of (bytes ++ part) ≡ lines_of r.ended ++ (r.begun ++ part) ∷ [] =
-        ap lines_of d.bytes_are ∙ lines_push r.ended d.front r.whole d.goes_on ∙ ap (λ l. lines_of r.ended ++ l ∷ []) (sym d.line_is) in
-        (brought, b, record {
-          ended = bytes ++ part;
-          begun = [];
-          bytes_are = sym (append-nil (bytes ++ part));
-          whole = subst (λ bs. is_whole bs ≡ true) (sym d.bytes_are) (whole_push r.ended d.front);
-          no_feed = refl;
-          kept_are = refl;
-          size_is = grown size bytes part r.size_is;
-          small = subst (λ n. n ≤ 16_777_216) (grown size bytes part r.size_is) fits;
-          lines_are = ap (λ n. n + 1) r.lines_are ∙ sym (length_push (lines_of r.ended) (r.begun ++ part)) ∙ ap length (sym same);
-          judged = subst (λ ls. Judged ls new (given ++ brought)) (sym same) j;
-        })
+        ap lines_of d.bytes_are ∙ lines_push r.ended d.front r.whole d.goes_on ∙ ap (λ l. lines_of r.ended ++ l ∷ []) (sym d.line_is) in (
+          brought,
+          b,
+          record {
+            ended = bytes ++ part;
+            begun = [];
+            bytes_are = sym (append-nil (bytes ++ part));
+            whole = subst (λ bs. is_whole bs ≡ true) (sym d.bytes_are) (whole_push r.ended d.front);
+            no_feed = refl;
+            kept_are = refl;
+            size_is = grown size bytes part r.size_is;
+            small = subst (λ n. n ≤ 16_777_216) (grown size bytes part r.size_is) fits;
+            lines_are = ap (λ n. n + 1) r.lines_are ∙ sym (length_push (lines_of r.ended) (r.begun ++ part)) ∙ ap length (sym same);
+            judged = subst (λ ls. Judged ls new (given ++ brought)) (sym same) j;
+          },
+        )
 
 -- a part that ends the line, and whatever comes behind it
 lines_then : (state : State) (kept : List ℕ) (size lines : ℕ) (bytes : List ℕ) (given : List Event) (part rest : List ℕ) (r : Reading state kept size lines bytes given) →
@@ -208,8 +211,7 @@ last_line_ok state kept size lines bytes given taken new before behind r some ju
         (more : List Event) × (behind ≡ before ++ more) × Judged (lines_of bytes) new (given ++ more) × (length (lines_of bytes) ≡ lines + 1)
     on (fit, (room, (brought, s, b))) =
         let same = lines_end state kept size lines bytes given r (begun_some state kept size lines bytes given r some) in
-        let j = line_taken (lines_of r.ended) state given r.begun new brought r.judged (size_end state kept size lines bytes given r) fit room s in
-        (
+        let j = line_taken (lines_of r.ended) state given r.begun new brought r.judged (size_end state kept size lines bytes given r) fit room s in (
           brought,
           b,
           subst (λ ls. Judged ls new (given ++ brought)) (sym same) j,

@@ -6,3 +6,4 @@ pub mod Verdicts
 pub mod Judged
 pub mod States
 pub mod Reading
+pub mod Documents

@@ -71,3 +71,7 @@ Judges lines (IsFaulty line kind) =
 
 abbrev pub HasVerdict : List ℕ → Verdict → Type 0
 HasVerdict bytes verdict = Judges (lines_of bytes) verdict
+
+-- the bytes spell a tree, within the limits
+abbrev pub SpellsTree : List ℕ → Type 0
+SpellsTree bytes = ∥ ((root : Root) × HasVerdict bytes (IsTree root)) ∥₁

@@ -5,12 +5,14 @@
 #![tactic(auto)]
 
 mod cuts;
+mod doc;
 mod event;
 mod extent;
 mod fault;
 mod machine;
 mod reader;
 
+pub use doc::Doc;
 pub use event::Event;
 pub use fault::{DocFault, DocKind, ReaderFault};
 pub use reader::Reader;

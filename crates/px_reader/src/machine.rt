@@ -87,12 +87,7 @@ impl Machine {
     }
 
     /// Takes a line without its end. At a fault nothing is given.
-    fn take(
-        &mut self,
-        alloc: Global,
-        line: &[u8],
-        out: &mut Vec<Event>,
-    ) -> Result<(), LineFault>
+    fn take(&mut self, alloc: Global, line: &[u8], out: &mut Vec<Event>) -> Result<(), LineFault>
         ensures { Takes (state_of self.old) (line_of line.now) result (state_of self.new) out.old.items out.new.items }
     {
         let Some((first, rest)) = line.split_first() else {

@@ -2,13 +2,12 @@
 
 ghost use Rattle.std.specs.Prelude.{◌≡◌, ◌++◌, ◌-◌, length, take, OnOk};
 
-use memchr::memchr;
-use std::alloc::{AllocError, Global};
-
 use crate::event::Event;
 use crate::extent::Extent;
 use crate::fault::{DocFault, DocKind, LineFault, ReaderFault};
 use crate::machine::Machine;
+use memchr::memchr;
+use std::alloc::{AllocError, Global};
 
 /// How much is kept of a line that has begun: all of it, or enough to show that it is too long.
 const MAX_KEPT: usize = 1_048_579;
@@ -176,10 +175,7 @@ impl Reader {
         if self.kept.is_empty() {
             return Ok(self.extent.lines());
         }
-        if let Err(fault) = self
-            .machine
-            .judge(self.alloc, self.kept.as_slice(), out)
-        {
+        if let Err(fault) = self.machine.judge(self.alloc, self.kept.as_slice(), out) {
             return Err(self.extent.fault(fault));
         }
         Ok(self.extent.lines() + 1)

@@ -10,7 +10,7 @@ returns-in_default-clause-fault c = λ bytes given h.
     let old = c.args.self.now in
     let big : 16_777_216 < old.extent.size + length c.args.part.now = c.in_default.ensures in
     subst (λ fault. IsFirstFault (bytes ++ c.args.part.now) fault) (sym c.fault.ensures)
-        (read_part_big (state_of old.machine) old.kept.items old.extent.size old.extent.lines bytes given c.args.part.now h.reading c.requires big)
+    (read_part_big (state_of old.machine) old.kept.items old.extent.size old.extent.lines bytes given c.args.part.now h.reading c.requires big)
 
 pub returns-clause-reads : goal.returns-clause-reads
 returns-clause-reads c = λ bytes given h.

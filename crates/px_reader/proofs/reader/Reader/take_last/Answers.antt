@@ -23,8 +23,8 @@ returns-in-Err-clause-fault c = λ bytes given h.
     let judged : Judging (state_of old.machine) c.as_slice.result.now (Err c.in-Err.fault) (state_of c.judge.new.self) c.args.out.now.items c.judge.new.out.items = c.in-Err.ensures in
     let here = subst (λ line. Judging (state_of old.machine) line (Err c.in-Err.fault) (state_of c.judge.new.self) c.args.out.now.items c.judge.new.out.items) c.as_slice.ensures.value judged in
     subst (λ fault. IsLastFault bytes fault) (sym c.fault.ensures)
-        (last_line_bad (state_of old.machine) old.kept.items old.extent.size old.extent.lines bytes given c.in-Err.fault (state_of c.judge.new.self)
-            c.args.out.now.items c.judge.new.out.items h.reading some here).0
+    (last_line_bad (state_of old.machine) old.kept.items old.extent.size old.extent.lines bytes given c.in-Err.fault (state_of c.judge.new.self)
+    c.args.out.now.items c.judge.new.out.items h.reading some here).0
 
 pub returns-clause-reads : goal.returns-clause-reads
 returns-clause-reads c = λ bytes given h.
@@ -33,5 +33,5 @@ returns-clause-reads c = λ bytes given h.
     let judged : Judging (state_of old.machine) c.as_slice.result.now (Ok tt) (state_of c.judge.new.self) c.args.out.now.items c.judge.new.out.items = c.in_default.ensures in
     let here = subst (λ line. Judging (state_of old.machine) line (Ok tt) (state_of c.judge.new.self) c.args.out.now.items c.judge.new.out.items) c.as_slice.ensures.value judged in
     let (more, behind, all, count) = last_line_ok (state_of old.machine) old.kept.items old.extent.size old.extent.lines bytes given tt (state_of c.judge.new.self)
-        c.args.out.now.items c.judge.new.out.items h.reading some here in
+    c.args.out.now.items c.judge.new.out.items h.reading some here in
     (more, behind, all, count ∙ ap (λ n. n + 1) (sym c.lines-2.ensures.value))

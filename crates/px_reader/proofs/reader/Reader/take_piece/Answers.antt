@@ -24,8 +24,8 @@ returns-in_err-end_line-clause-fault c =
     let rest = c.loop-feed.rest.now in
     let answer = err_from_is_err_and c.from_residual.result c.from_residual.ensures.1 in
     rw (answer.1, answer.2)
-        (reads_to_fault c.args.self.now c.loop-feed.self c.args.piece.now rest (take end rest) (take (length rest - end) (drop end rest)) c.args.out.now.items c.loop-feed.out.items c.in_err-end_line.field-0.0
-            c.loop-feed.invariant.reads (cut_at end rest) c.in_err-end_line.ensures.fault)
+    (reads_to_fault c.args.self.now c.loop-feed.self c.args.piece.now rest (take end rest) (take (length rest - end) (drop end rest)) c.args.out.now.items c.loop-feed.out.items c.in_err-end_line.field-0.0
+    c.loop-feed.invariant.reads (cut_at end rest) c.in_err-end_line.ensures.fault)
 
 pub loop-feed-preserved : goal.loop-feed-preserved
 loop-feed-preserved c =
@@ -43,8 +43,8 @@ begin_line-requires c = feed_none c.loop-feed.rest.now c.in_default.ensures
 pub returns-clause-reads : goal.returns-clause-reads
 returns-clause-reads c =
     on_ok_weaker c.begin_line.result
-        (λ on. reads_to_end c.args.self.now c.loop-feed.self c.begin_line.new.self c.args.piece.now c.loop-feed.rest.now c.args.out.now.items c.loop-feed.out.items c.loop-feed.invariant.reads on)
-        c.begin_line.ensures.reads
+    (λ on. reads_to_end c.args.self.now c.loop-feed.self c.begin_line.new.self c.args.piece.now c.loop-feed.rest.now c.args.out.now.items c.loop-feed.out.items c.loop-feed.invariant.reads on)
+    c.begin_line.ensures.reads
 
 pub returns-clause-gives : goal.returns-clause-gives
 returns-clause-gives c =
@@ -53,8 +53,8 @@ returns-clause-gives c =
 pub returns-clause-fault : goal.returns-clause-fault
 returns-clause-fault c =
     IfErr-weaker c.begin_line.result
-        (λ fault. (bytes : List ℕ) (given : List Event) → HasRead c.loop-feed.self bytes given → IsFirstFault (bytes ++ c.loop-feed.rest.now) fault)
-        (λ fault. (bytes : List ℕ) (given : List Event) → HasRead c.args.self.now bytes given → IsFirstFault (bytes ++ c.args.piece.now) fault)
-        (λ fault on. reads_to_fault c.args.self.now c.loop-feed.self c.args.piece.now c.loop-feed.rest.now c.loop-feed.rest.now [] c.args.out.now.items c.loop-feed.out.items fault
-            c.loop-feed.invariant.reads (sym (append-nil c.loop-feed.rest.now)) on)
-        c.begin_line.ensures.fault
+    (λ fault. (bytes : List ℕ) (given : List Event) → HasRead c.loop-feed.self bytes given → IsFirstFault (bytes ++ c.loop-feed.rest.now) fault)
+    (λ fault. (bytes : List ℕ) (given : List Event) → HasRead c.args.self.now bytes given → IsFirstFault (bytes ++ c.args.piece.now) fault)
+    (λ fault on. reads_to_fault c.args.self.now c.loop-feed.self c.args.piece.now c.loop-feed.rest.now c.loop-feed.rest.now [] c.args.out.now.items c.loop-feed.out.items fault
+    c.loop-feed.invariant.reads (sym (append-nil c.loop-feed.rest.now)) on)
+    c.begin_line.ensures.fault
