@@ -16,3 +16,6 @@ pub use doc::Doc;
 pub use event::Event;
 pub use fault::{DocFault, DocKind, ReaderFault};
 pub use reader::Reader;
+
+#[cfg(test)]
+mod tests;
