@@ -97,10 +97,6 @@ lines_one (b ∷ line) n =
     let p = and_parts (not (b == 10)) (has_no_feed line) n in
     onto b (line ++ 10 ∷ []) p.0 ∙ ap (onto_first b) (lines_one line p.1)
 
--- a line up to its line feed, and whatever comes behind it
-pub one_line : (line more : List ℕ) → has_no_feed line ≡ true → lines_of (line ++ 10 ∷ more) ≡ (line ++ 10 ∷ []) ∷ lines_of more
-one_line line more n = lines_ended line more ∙ ap (λ ls. ls ++ lines_of more) (lines_one line n)
-
 -- one more line behind whole bytes, and whatever comes behind it
 pub lines_behind : (bytes line more : List ℕ) → is_whole bytes ≡ true → has_no_feed line ≡ true →
     lines_of (bytes ++ ((line ++ 10 ∷ []) ++ more)) ≡ lines_of bytes ++ (line ++ 10 ∷ []) ∷ lines_of more
@@ -116,13 +112,6 @@ lines_push bytes line w n = lines_whole bytes (line ++ 10 ∷ []) w ∙ ap (λ l
 pub lines_last : (bytes line : List ℕ) → is_whole bytes ≡ true → has_no_feed line ≡ true → 0 < length line →
     lines_of (bytes ++ line) ≡ lines_of bytes ++ line ∷ []
 lines_last bytes line w n some = lines_whole bytes line w ∙ ap (λ ls. lines_of bytes ++ ls) (open_line line n some)
-
--- a line that is not ended yet, behind whole bytes, and whatever comes behind what is known of it
-pub lines_open : (bytes line more : List ℕ) → is_whole bytes ≡ true → has_no_feed line ≡ true → 0 < length line →
-    (rest : List ℕ) × (lines : List (List ℕ)) × (lines_of ((bytes ++ line) ++ more) ≡ lines_of bytes ++ (line ++ rest) ∷ lines)
-lines_open bytes line more w n some =
-    let (rest, lines, e) = begun_line line more n some in
-    (rest, lines, ap lines_of (append_assoc bytes line more) ∙ lines_whole bytes (line ++ more) w ∙ ap (λ ls. lines_of bytes ++ ls) e)
 
 concat-onto_first : (b : ℕ) (lines : List (List ℕ)) → concat (onto_first b lines) ≡ b ∷ concat lines
 concat-onto_first b [] = refl
@@ -154,20 +143,6 @@ ended_is (b ∷ c ∷ line) e =
     let (front, n, same) = ended_is (c ∷ line) p.1 in
     (b ∷ front, both_true p.0 n, ap (λ bs. b ∷ bs) same)
 
-pub ended_made : (front : List ℕ) → has_no_feed front ≡ true → is_ended (front ++ 10 ∷ []) ≡ true
-ended_made [] n = refl
-ended_made (b ∷ []) n = both_true (and_parts (not (b == 10)) true n).0 refl
-ended_made (b ∷ c ∷ front) n =
-    let p = and_parts (not (b == 10)) (has_no_feed (c ∷ front)) n in both_true p.0 (ended_made (c ∷ front) p.1)
-
--- ended lines are the lines of their bytes
-pub lines_of-concat : (lines : List (List ℕ)) (rest : List ℕ) → list_all is_ended lines ≡ true → lines_of (concat lines ++ rest) ≡ lines ++ lines_of rest
-lines_of-concat [] rest h = refl
-lines_of-concat (line ∷ lines) rest h =
-    let p = and_parts (is_ended line) (list_all is_ended lines) h in
-    let (front, n, e) = ended_is line p.0 in
-    ap lines_of (append_assoc line (concat lines) rest) ∙ rw e (lines_behind [] front (concat lines ++ rest) refl n ∙ ap (λ ls. (front ++ 10 ∷ []) ∷ ls) (lines_of-concat lines rest p.1))
-
 -- the first lines of more lines
 pub take_lines : (lines more : List (List ℕ)) (k : ℕ) → k ≤ length lines → take k (lines ++ more) ≡ take k lines
 take_lines lines more k l = take-append-le k lines more l
@@ -175,59 +150,6 @@ take_lines lines more k l = take-append-le k lines more l
 pub take_next : (lines : List (List ℕ)) (line : List ℕ) (more : List (List ℕ)) → take (length lines + 1) (lines ++ line ∷ more) ≡ lines ++ line ∷ []
 take_next lines line more =
     ap (take (length lines + 1)) (sym (append_assoc lines (line ∷ []) more)) ∙ take_at (lines ++ line ∷ []) more (length lines + 1) (length_push lines line)
-
-some_line : (b : ℕ) (bytes : List ℕ) → 0 < length (lines_of (b ∷ bytes))
-some_line b bytes = on (b == 10) (lines_of bytes)
-  where
-    on : (t : Bool) (lines : List (List ℕ)) → 0 < length (if t then (10 ∷ []) ∷ lines else onto_first b lines)
-    on true lines = omega arith
-    on false [] = omega arith
-    on false (line ∷ lines) = omega arith
-
--- of whole lines, one more line and whatever comes behind it, the first lines are known
-pub take_known : (lines : List (List ℕ)) (line more : List ℕ) (k : ℕ) → list_all is_ended lines ≡ true → is_ended line ≡ true → k ≤ length lines + 1 →
-    take k (lines_of (concat lines ++ (line ++ more))) ≡ take k (lines ++ line ∷ [])
-take_known lines line more k h e l =
-    let (front, n, same) = ended_is line e in
-    let one : lines_of (line ++ more) ≡ line ∷ lines_of more = rw same (lines_behind [] front more refl n) in
-    let m : k ≤ length (lines ++ line ∷ []) = rw length_push l in
-    ap (take k) (lines_of-concat lines (line ++ more) h ∙ ap (λ ls. lines ++ ls) one ∙ sym (append_assoc lines (line ∷ []) (lines_of more)))
-    ∙ take_lines (lines ++ line ∷ []) (lines_of more) k m
-
--- the lines of whole bytes are ended
-pub lines_of-ended : (bytes : List ℕ) → is_whole bytes ≡ true → list_all is_ended (lines_of bytes) ≡ true
-lines_of-ended [] w = refl
-lines_of-ended (b ∷ []) w = rw w refl
-lines_of-ended (b ∷ c ∷ bytes) w = on (b == 10) refl (lines_of (c ∷ bytes)) (some_line c bytes) (lines_of-ended (c ∷ bytes) w)
-  where
-    longer : (b : ℕ) (line : List ℕ) → (b == 10) ≡ false → is_ended line ≡ true → is_ended (b ∷ line) ≡ true
-    longer b [] n e = absurd (cc)
-    longer b (c ∷ line) n e = rw (n, e) refl
-
-    on : (t : Bool) → (b == 10) ≡ t → (lines : List (List ℕ)) → 0 < length lines → list_all is_ended lines ≡ true →
-        list_all is_ended (if t then (10 ∷ []) ∷ lines else onto_first b lines) ≡ true
-    on true n lines some h = h
-    on false n [] some h = absurd (omega arith)
-    on false n (line ∷ lines) some h =
-        let p = and_parts (is_ended line) (list_all is_ended lines) h in both_true (longer b line n p.0) p.1
-
-length-onto_first : (b : ℕ) (lines : List (List ℕ)) → 0 < length lines → length (onto_first b lines) ≡ length lines
-length-onto_first b [] some = absurd (omega arith)
-length-onto_first b (line ∷ lines) some = refl
-
-count_more : (b : ℕ) (bytes : List ℕ) → count_by (λ b. b == 10) (b ∷ bytes) ≡ cond (b == 10) 1 0 + count_by (λ b. b == 10) bytes
-count_more b bytes = sum_by-cons (λ (x : ℕ). cond (x == 10) 1 0) b bytes
-
--- whole bytes have as many lines as line feeds
-pub count-lines_of : (bytes : List ℕ) → is_whole bytes ≡ true → length (lines_of bytes) ≡ count_by (λ b. b == 10) bytes
-count-lines_of [] w = refl
-count-lines_of (b ∷ []) w = rw w refl
-count-lines_of (b ∷ c ∷ bytes) w = on (b == 10) refl (count-lines_of (c ∷ bytes) w) (some_line c bytes) ∙ sym (count_more b (c ∷ bytes))
-  where
-    on : (t : Bool) → (b == 10) ≡ t → length (lines_of (c ∷ bytes)) ≡ count_by (λ b. b == 10) (c ∷ bytes) → 0 < length (lines_of (c ∷ bytes)) →
-        length (if t then (10 ∷ []) ∷ lines_of (c ∷ bytes) else onto_first b (lines_of (c ∷ bytes))) ≡ cond t 1 0 + count_by (λ b. b == 10) (c ∷ bytes)
-    on true e ih some = omega (arith, ih)
-    on false e ih some = omega (arith, ih, length-onto_first b (lines_of (c ∷ bytes)) some)
 
 -- what an ended line is without its end
 pub without_end-feed : (line : List ℕ) → without_end (line ++ 10 ∷ []) ≡ without_cr line
@@ -251,19 +173,6 @@ without_cr-cr [] = refl
 without_cr-cr (b ∷ []) = refl
 without_cr-cr (b ∷ c ∷ line) = ap (λ bs. b ∷ bs) (without_cr-cr (c ∷ line))
 
-pub without_cr-other : (line : List ℕ) (b : ℕ) → (b == 13) ≡ false → without_cr (line ++ b ∷ []) ≡ line ++ b ∷ []
-without_cr-other [] b n = rw n refl
-without_cr-other (c ∷ []) b n = rw n refl
-without_cr-other (c ∷ d ∷ line) b n = ap (λ bs. c ∷ bs) (without_cr-other (d ∷ line) b n)
-
--- an ended line with no CR before its line feed
-pub without_end-other : (front : List ℕ) (b : ℕ) → (b == 13) ≡ false → without_end (front ++ b ∷ 10 ∷ []) ≡ front ++ b ∷ []
-without_end-other front b n = ap without_end (sym (append_assoc front (b ∷ []) (10 ∷ []))) ∙ without_end-feed (front ++ b ∷ []) ∙ without_cr-other front b n
-
--- an ended line with a CR before its line feed
-pub without_end-cr : (line : List ℕ) → without_end (line ++ 13 ∷ 10 ∷ []) ≡ line
-without_end-cr line = ap without_end (sym (append_assoc line (13 ∷ []) (10 ∷ []))) ∙ without_end-feed (line ++ 13 ∷ []) ∙ without_cr-cr line
-
 -- the same by the line's last byte
 pub without_end-no_cr : (line : List ℕ) → (get_or line (length line - 1) 0 ≡ 13 → ⊥) → without_end (line ++ 10 ∷ []) ≡ line
 without_end-no_cr line n = without_end-feed line ∙ on line n
@@ -286,51 +195,9 @@ without_end-last_cr line some e =
     let whole : line ≡ take (length line - 1) line ++ 13 ∷ [] = sym (take_all (length line) line (omega arith)) ∙ ap (λ k. take k line) (sym m) ∙ t ∙ ap (λ b. take (length line - 1) line ++ b ∷ []) e in
     without_end-feed line ∙ ap without_cr whole ∙ without_cr-cr (take (length line - 1) line)
 
--- at most the CR goes
-pub length-without_cr : (line : List ℕ) → (length (without_cr line) ≤ length line) × (length line ≤ length (without_cr line) + 1)
-length-without_cr [] = (omega arith, omega arith)
-length-without_cr (b ∷ []) = on (b == 13)
-  where
-    on : (t : Bool) → (length (if t then [] else b ∷ []) ≤ length (b ∷ [])) × (length (b ∷ []) ≤ length (if t then [] else b ∷ []) + 1)
-    on true = (omega arith, omega arith)
-    on false = (omega arith, omega arith)
-length-without_cr (b ∷ c ∷ line) = let ih = length-without_cr (c ∷ line) in (omega (arith, ih.0), omega (arith, ih.1))
-
--- a line without its end is no longer
-pub length_without_end : (line : List ℕ) → length (without_end line) ≤ length line
-length_without_end [] = omega arith
-length_without_end (b ∷ []) = on (b == 10)
-  where
-    on : (t : Bool) → length (if t then [] else b ∷ []) ≤ length (b ∷ [])
-    on true = omega arith
-    on false = omega arith
-length_without_end (b ∷ c ∷ []) = on (c == 10) (b == 13)
-  where
-    on : (t s : Bool) → length (if t then (if s then [] else b ∷ []) else b ∷ c ∷ []) ≤ length (b ∷ c ∷ [])
-    on true true = omega arith
-    on true false = omega arith
-    on false s = omega arith
-length_without_end (b ∷ c ∷ d ∷ line) = let ih = length_without_end (c ∷ d ∷ line) in omega (arith, ih)
-
 -- a line's end has at most two bytes
 pub take_long : (line : List ℕ) → length line ≤ length (without_end line) + 2
 take_long [] = omega arith
 take_long (b ∷ []) = omega arith
 take_long (b ∷ c ∷ []) = omega arith
 take_long (b ∷ c ∷ d ∷ line) = let ih = take_long (c ∷ d ∷ line) in omega (arith, ih)
-
--- the line feed changes nothing for UTF-8
-pub utf8-feed : (line : List ℕ) → IsUtf8 line ↔ IsUtf8 (line ++ 10 ∷ [])
-utf8-feed line = (
-  λ u. IsUtf8-append line (10 ∷ []) u feed,
-  λ u.
-      let b = IsCharBoundary-at_seam (line ++ 10 ∷ []) line (10 ∷ []) refl feed in
-      rw take_at at (IsUtf8-take (line ++ 10 ∷ []) (length line) u b),
-)
-  where
-    ascii : IsAscii (10 ∷ [])
-    ascii zero = omega arith
-    ascii (suc i) = omega arith
-
-    feed : IsUtf8 (10 ∷ [])
-    feed = IsUtf8-from_ascii (10 ∷ []) ascii

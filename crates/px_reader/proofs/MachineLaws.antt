@@ -68,16 +68,6 @@ run_said (text ∷ texts) behind after n b = says (text ∷ texts) (omega arith)
 run_body : {lines rest : List Line} {nodes : Nodes} → Run [] lines nodes rest → Body lines nodes rest
 run_body r = rw (r.lines_are, r.nodes_are) (run_said r.texts r.behind r.after r.no_text r.body)
 
-body_run : {lines rest : List Line} {nodes : Nodes} → Body lines nodes rest → begins_with_text rest ≡ false → Run [] lines nodes rest
-body_run (nothing {rest = rest}) h =
-    record { texts = []; behind = rest; after = NoNodes; lines_are = refl; no_text = h; body = nothing; nodes_are = refl }
-body_run (passes {lines = lines} {nodes = nodes} b) h =
-    record { texts = []; behind = Passed ∷ lines; after = nodes; lines_are = refl; no_text = refl; body = passes b; nodes_are = refl }
-body_run (says {lines = lines} {nodes = nodes} texts some n b) h =
-    record { texts = texts; behind = lines; after = nodes; lines_are = refl; no_text = n; body = b; nodes_are = refl }
-body_run (element {body = body} {children = children} {nodes = nodes} name attributes d b c) h =
-    record { texts = []; behind = Opens name ∷ gives attributes ++ body; after = ElementThen name attributes children nodes; lines_are = refl; no_text = refl; body = element name attributes d b c; nodes_are = refl }
-
 events-text_then : (text : List ℕ) (nodes : Nodes) → events (text_then text nodes) ≡ text_event text ++ events nodes
 events-text_then [] nodes = refl
 events-text_then (b ∷ text) nodes = refl

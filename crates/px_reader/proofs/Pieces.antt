@@ -15,7 +15,7 @@ use Rattle.px_reader.specs.Judged.{Judged}
 use Rattle.px_reader.specs.Verdicts.{Verdict, IsFaulty, Judges, HasVerdict, Shows, depth, attributes_behind}
 use Rattle.px_reader.proofs.MachineLaws as machine
 use Rattle.px_reader.proofs.Begins.{kinds-append}
-use Rattle.px_reader.proofs.LineCuts.{begun_line, lines_whole, lines_behind, sizes, count-lines_of}
+use Rattle.px_reader.proofs.LineCuts.{begun_line, lines_whole, lines_behind, sizes}
 use Rattle.px_reader.specs.Lines.{has_no_feed, is_whole}
 use Rattle.px_reader.proofs.Runs.{step_same}
 use Rattle.px_reader.proofs.Depths.{depth_is, attributes_are}
@@ -67,38 +67,6 @@ open_big lines state given line more j n big =
     let (tail, others, e) = begun_line line more n (omega arith) in
     let over : 16_777_216 < sum_by length lines + length (line ++ tail) = rw length-append (omega arith) in
     subst (λ ls. Judges (lines ++ ls) (IsFaulty (length lines + 1) TooBig)) (sym e) (judged_big lines state given (line ++ tail) others j over)
-
-no_feeds : (bytes : List ℕ) → has_no_feed bytes ≡ true → count_by (λ b. b == 10) bytes ≡ 0
-no_feeds [] n = refl
-no_feeds (b ∷ bytes) n =
-    let p = and_parts (not (b == 10)) (has_no_feed bytes) n in
-    let c : count_by (λ b. b == 10) (b ∷ bytes) ≡ cond (b == 10) 1 0 + count_by (λ b. b == 10) bytes = sum_by-cons (λ (x : ℕ). cond (x == 10) 1 0) b bytes in
-    c ∙ ap (λ t. cond t 1 0 + count_by (λ b. b == 10) bytes) (not-true (b == 10) p.0) ∙ ap (λ n. 0 + n) (no_feeds bytes p.1)
-
--- the line feeds of what is known are those of its whole lines
-pub feeds_known : (whole line : List ℕ) → is_whole whole ≡ true → has_no_feed line ≡ true → count_by (λ b. b == 10) (whole ++ line) ≡ length (lines_of whole)
-feeds_known whole line w n =
-    let c : count_by (λ b. b == 10) (whole ++ line) ≡ count_by (λ b. b == 10) whole + count_by (λ b. b == 10) line = sum_by-append (λ (x : ℕ). cond (x == 10) 1 0) whole line in
-    added (count_by (λ b. b == 10) (whole ++ line)) (count_by (λ b. b == 10) whole) (count_by (λ b. b == 10) line) (length (lines_of whole)) c (count-lines_of whole w) (no_feeds line n)
-  where
-    added : (a b c d : ℕ) → a ≡ b + c → d ≡ b → c ≡ 0 → a ≡ d
-    added a b c d p q r = omega arith
-
--- too many bytes, however they go on
-pub big_known : (whole line rest : List ℕ) (state : State) (given : List Event) → is_whole whole ≡ true → has_no_feed line ≡ true → Judged (lines_of whole) state given →
-    16_777_216 < length (whole ++ line) → HasVerdict ((whole ++ line) ++ rest) (IsFaulty (count_by (λ b. b == 10) (whole ++ line) + 1) TooBig)
-big_known whole line rest state given w n j big =
-    let size : sum_by length (lines_of whole) + length line ≡ length (whole ++ line) = ap (λ n. n + length line) (sizes whole) ∙ sym (length-append whole line) in
-    let over : 16_777_216 < sum_by length (lines_of whole) + length line = subst (λ n. 16_777_216 < n) (sym size) big in
-    let judged = open_big (lines_of whole) state given line rest j n over in
-    let same : lines_of ((whole ++ line) ++ rest) ≡ lines_of whole ++ lines_of (line ++ rest) = ap lines_of (append_assoc whole line rest) ∙ lines_whole whole (line ++ rest) w in
-    subst (λ ls. Judges ls (IsFaulty (count_by (λ b. b == 10) (whole ++ line) + 1) TooBig)) (sym same)
-    (subst (λ k. Judges (lines_of whole ++ lines_of (line ++ rest)) (IsFaulty (k + 1) TooBig)) (sym (feeds_known whole line w n)) judged)
-
--- what is judged of lines with one more behind them is the verdict on all bytes that begin so
-pub verdict_known : (whole line rest : List ℕ) (verdict : Verdict) → is_whole whole ≡ true → has_no_feed line ≡ true →
-    Judges (lines_of whole ++ (line ++ 10 ∷ []) ∷ lines_of rest) verdict → HasVerdict (whole ++ ((line ++ 10 ∷ []) ++ rest)) verdict
-verdict_known whole line rest verdict w n j = subst (λ ls. Judges ls verdict) (sym (lines_behind whole line rest w n)) j
 
 -- What is accepted runs through each of its fronts.
 pub record Through (lines more : List Line) (state : State) (evs : List Event) : Type 0 where

@@ -71,10 +71,6 @@ step_few After line found e =
     let P : Step → Type 0 = Few After in
     subst P g.1 (omega arith)
 
--- a line gives at most two events
-pub step_gives_two : (state : State) (line : Line) (new : State) (brought : List Event) → step state line ≡ Some (new, brought) → length brought ≤ 2
-step_gives_two state line new brought e = let few = step_few state line (new, brought) e in let one = waiting_few state in omega (arith, few, one)
-
 few_from : (lines : List Line) (state last : State) (given : List Event) → runs state lines ≡ Some (last, given) → length given + waiting last ≤ length lines + waiting state
 few_from [] state last given e =
     let same = step_same (state, []) (last, given) e in

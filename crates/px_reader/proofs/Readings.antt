@@ -25,10 +25,6 @@ use Rattle.px_reader.proofs.Kept.{kept_judged, kept_more}
 no_feeds-append : (a b : List ℕ) → has_no_feed a ≡ true → has_no_feed b ≡ true → has_no_feed (a ++ b) ≡ true
 no_feeds-append a b m n = list_all-append _ a b ∙ both_true m n
 
--- nothing has been read
-pub read_none : Reading Before [] 0 0 [] []
-read_none = record { ended = []; begun = []; bytes_are = refl; whole = refl; no_feed = refl; kept_are = refl; size_is = refl; small = omega arith; lines_are = refl; judged = judged_none }
-
 -- the events given begin those of some tree, and are not too many
 pub judged_gives : (bytes : List ℕ) (state : State) (given : List Event) → Judged (lines_of bytes) state given → BeginsTree given × (length given ≤ length bytes)
 judged_gives bytes state given j =

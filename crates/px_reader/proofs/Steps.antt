@@ -18,37 +18,6 @@ use Rattle.px_reader.specs.States.{open_text, placed, is_after, is_giving, Takes
 reverse_push : (names : List (List ℕ)) (name : List ℕ) → reverse (names ++ name ∷ []) ≡ name ∷ reverse names
 reverse_push names name = reverse-append names (name ∷ [])
 
--- outside the root a text stands where it is white
-pub white_outside : (phase : Phase) (attributes : List (List ℕ)) (text new said : List ℕ) (names : List (List ℕ)) → length names ≡ 0 → all_white said ≡ true →
-    step (placed phase attributes text (reverse names)) (Says said) ≡ Some (placed phase attributes new (reverse names), [])
-white_outside phase attributes text new said names n w = rw (nil_from_length names n) (by_phase phase)
-  where
-    by_phase : (phase : Phase) → step (placed phase attributes text []) (Says said) ≡ Some (placed phase attributes new [], [])
-    by_phase phases.Start = rw w refl
-    by_phase phases.Giving = rw w refl
-    by_phase phases.Body = rw w refl
-
-pub not_white_outside : (phase : Phase) (attributes : List (List ℕ)) (text said : List ℕ) (names : List (List ℕ)) → length names ≡ 0 → all_white said ≡ false →
-    step (placed phase attributes text (reverse names)) (Says said) ≡ None
-not_white_outside phase attributes text said names n w = rw (nil_from_length names n) (by_phase phase)
-  where
-    by_phase : (phase : Phase) → step (placed phase attributes text []) (Says said) ≡ None
-    by_phase phases.Start = rw w refl
-    by_phase phases.Giving = rw w refl
-    by_phase phases.Body = rw w refl
-
--- in an element a text is one more of its run
-pub said_inside : (phase : Phase) (attributes : List (List ℕ)) (text new said : List ℕ) (names : List (List ℕ)) → 0 < length names → new ≡ open_text phase text ++ said →
-    step (placed phase attributes text (reverse names)) (Says said) ≡ Some (placed phases.Body attributes new (reverse names), [])
-said_inside phase attributes text new said names n e = by_names (reverse names) (let l = length-reverse names in omega arith) phase e
-  where
-    by_names : (outer : List (List ℕ)) → 0 < length outer → (phase : Phase) → new ≡ open_text phase text ++ said →
-        step (placed phase attributes text outer) (Says said) ≡ Some (placed phases.Body attributes new outer, [])
-    by_names [] n phase e = absurd (omega arith)
-    by_names (name ∷ outer) n phases.Start e = rw e refl
-    by_names (name ∷ outer) n phases.Giving e = rw e refl
-    by_names (name ∷ outer) n phases.Body e = rw e refl
-
 -- where attributes may come
 giving_is : (phase : Phase) (attributes : List (List ℕ)) (text : List ℕ) (names : List (List ℕ)) → is_giving (placed phase attributes text names) ≡ true →
     (name : List ℕ) × (outer : List (List ℕ)) × (phase ≡ phases.Giving) × (names ≡ name ∷ outer)
@@ -58,12 +27,6 @@ giving_is phases.Body attributes text (name ∷ outer) g = absurd (cc)
 giving_is phases.Start attributes text [] g = absurd (cc)
 giving_is phases.Giving attributes text [] g = absurd (cc)
 giving_is phases.Body attributes text [] g = absurd (cc)
-
-pub no_attribute_here : (state : State) (given value : List ℕ) → is_giving state ≡ false → step state (Gives given value) ≡ None
-no_attribute_here Before given value g = refl
-no_attribute_here (Attributes names name outer) given value g = absurd (cc)
-no_attribute_here (Inside text name outer) given value g = refl
-no_attribute_here After given value g = refl
 
 or_false : (a : Bool) → (a || false) ≡ a
 or_false true = refl
@@ -170,12 +133,6 @@ pub opens_deep : (phase : Phase) (attributes : List (List ℕ)) (text name : Lis
     (found : Step) × (step (placed phase attributes text (reverse names)) (Opens name) ≡ Some found) × (512 < open_in found.0)
 opens_deep phase attributes text name names a deep =
     ((Attributes [] name (reverse names), text_event (open_text phase text) ++ Start name ∷ []), opened phase attributes text name (reverse names) a, let l = length-reverse names in omega arith)
-
-pub after_opens : (state : State) (name : List ℕ) → is_after state ≡ true → step state (Opens name) ≡ None
-after_opens Before name a = absurd (cc)
-after_opens (Attributes names own outer) name a = absurd (cc)
-after_opens (Inside text own outer) name a = absurd (cc)
-after_opens After name a = refl
 
 pub open_in_placed : (phase : Phase) (attributes : List (List ℕ)) (text : List ℕ) (names : List (List ℕ)) → open_in (placed phase attributes text (reverse names)) ≤ length names
 open_in_placed phase attributes text names = let l = length-reverse names in let h = below phase (reverse names) in omega arith

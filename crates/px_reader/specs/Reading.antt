@@ -67,6 +67,32 @@ abbrev pub EndsTree : List ℕ → List Event → List Event → List Event → 
 EndsTree bytes given before behind =
     (root : Root) × (more : List Event) × (behind ≡ before ++ more) × (events_of root ≡ given ++ more) × HasVerdict bytes (IsTree root)
 
+-- By the part the reader reads on, whatever it has read.
+abbrev pub ReadsPart : Reader → Reader → List ℕ → List Event → List Event → Type 0
+ReadsPart old new part before behind =
+    (bytes : List ℕ) (given : List Event) → HasRead old bytes given → ReadsOn new (bytes ++ part) given before behind
+
+-- With what has come behind the earlier events, those of the document begin those of some tree.
+abbrev pub GivesMore : Reader → List Event → List Event → Type 0
+GivesMore old before behind = (bytes : List ℕ) (given : List Event) → HasRead old bytes given → GivesOn given before behind
+
+-- With the part the fault is the verdict, whatever was read before and however the bytes go on.
+abbrev pub FailsBy : Reader → List ℕ → ReaderFault → Type 0
+FailsBy old part fault = (bytes : List ℕ) (given : List Event) → HasRead old bytes given → IsFirstFault (bytes ++ part) fault
+
+-- What was read is a whole document, and all events of its tree are given.
+abbrev pub EndsWhole : Reader → List Event → List Event → Type 0
+EndsWhole old before behind = (bytes : List ℕ) (given : List Event) → HasRead old bytes given → EndsTree bytes given before behind
+
+-- The fault is the verdict on what was read.
+abbrev pub FailsAtEnd : Reader → ReaderFault → Type 0
+FailsAtEnd old fault = (bytes : List ℕ) (given : List Event) → HasRead old bytes given → IsLastFault bytes fault
+
+-- All lines of what was read are judged, and there are so many.
+abbrev pub ReadsLines : Reader → State → ℕ → List Event → List Event → Type 0
+ReadsLines old state lines before behind =
+    (bytes : List ℕ) (given : List Event) → HasRead old bytes given → ReadsAll state lines bytes given before behind
+
 -- a line's fault as a document's
 abbrev pub fault_at : ℕ → LineFault → ReaderFault
 fault_at line (Kind kind) = Doc (record { line = line; kind = kind })

@@ -35,7 +35,8 @@ impl Extent {
 
     /// The extent with more bytes, unless they are too many.
     pub fn with_bytes(&self, count: usize) -> Option<Extent>
-        ensures { MatchOption result (16_777_216 < self.now.size + count) (λ grown. (grown.lines ≡ self.now.lines) × (grown.size ≡ self.now.size + count)) }
+        ensures { MatchOption result (16_777_216 < self.now.size + count)
+            (λ grown. (grown.lines ≡ self.now.lines) × (grown.size ≡ self.now.size + count)) }
     {
         if count as u64 > MAX_SIZE - self.size {
             return None;
@@ -49,7 +50,8 @@ impl Extent {
     /// The extent with the end of a line, of so many bytes, unless they are too many.
     pub fn with_line(&self, count: usize) -> Option<Extent>
         requires { 0 < count }
-        ensures { MatchOption result (16_777_216 < self.now.size + count) (λ grown. (grown.lines ≡ self.now.lines + 1) × (grown.size ≡ self.now.size + count)) }
+        ensures { MatchOption result (16_777_216 < self.now.size + count)
+            (λ grown. (grown.lines ≡ self.now.lines + 1) × (grown.size ≡ self.now.size + count)) }
     {
         if count as u64 > MAX_SIZE - self.size {
             return None;

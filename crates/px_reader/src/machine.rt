@@ -2,7 +2,7 @@
 
 ghost use Rattle.std.specs.Prelude.{◌≡◌, ◌++◌, ◌∷◌, [], reverse, vec_len, IfOk, OnOk, OnErr};
 ghost use Rattle.px_text.specs.Escapes.{unescaped};
-ghost use Rattle.px_reader.specs.Lines.{Opens, Closes, Gives, Says, Passed, named, line_of, until_space, behind_space, all_white};
+ghost use Rattle.px_reader.specs.Lines.{Opens, Closes, Gives, Says, Passed, named, given_by, line_of, all_white};
 ghost use Rattle.px_reader.specs.Machine.{Before, text_event};
 ghost use Rattle.px_reader.specs.Spelling.{is_among};
 ghost use Rattle.px_reader.specs.States.{state_of, is_after, is_giving, open_text, Takes, Judging};
@@ -74,7 +74,8 @@ impl Machine {
         line: &[u8],
         out: &mut Vec<Event>,
     ) -> Result<(), LineFault>
-        ensures { Judging (state_of self.old) line.now result (state_of self.new) out.old.items out.new.items }
+        ensures { Judging (state_of self.old) line.now result
+            (state_of self.new) out.old.items out.new.items }
     {
         let content = without_end(line);
         if content.len() > MAX_LINE {
@@ -88,7 +89,8 @@ impl Machine {
 
     /// Takes a line without its end. At a fault nothing is given.
     fn take(&mut self, alloc: Global, line: &[u8], out: &mut Vec<Event>) -> Result<(), LineFault>
-        ensures { Takes (state_of self.old) (line_of line.now) result (state_of self.new) out.old.items out.new.items }
+        ensures { Takes (state_of self.old) (line_of line.now) result
+            (state_of self.new) out.old.items out.new.items }
     {
         let Some((first, rest)) = line.split_first() else {
             return Ok(());
@@ -111,7 +113,8 @@ impl Machine {
 
     /// The first line of an element.
     fn open(&mut self, alloc: Global, name: &[u8], out: &mut Vec<Event>) -> Result<(), LineFault>
-        ensures { Takes (state_of self.old) (named Opens name.now) result (state_of self.new) out.old.items out.new.items }
+        ensures { Takes (state_of self.old) (named Opens name.now) result
+            (state_of self.new) out.old.items out.new.items }
     {
         if !is_pyx_name(name) {
             return Err(LineFault::Kind(DocKind::NotHere));
@@ -135,7 +138,8 @@ impl Machine {
 
     /// The last line of an element.
     fn close(&mut self, alloc: Global, name: &[u8], out: &mut Vec<Event>) -> Result<(), LineFault>
-        ensures { Takes (state_of self.old) (named Closes name.now) result (state_of self.new) out.old.items out.new.items }
+        ensures { Takes (state_of self.old) (named Closes name.now) result
+            (state_of self.new) out.old.items out.new.items }
     {
         if !is_pyx_name(name) {
             return Err(LineFault::Kind(DocKind::NotHere));
@@ -158,7 +162,8 @@ impl Machine {
         line: &[u8],
         out: &mut Vec<Event>,
     ) -> Result<(), LineFault>
-        ensures { Takes (state_of self.old) (named (λ name. Gives name (unescaped (behind_space line.now))) (until_space line.now)) result (state_of self.new) out.old.items out.new.items }
+        ensures { Takes (state_of self.old) (given_by line.now) result
+            (state_of self.new) out.old.items out.new.items }
     {
         let (name, value) = split_at_space(line);
         if !is_pyx_name(name) {
@@ -175,7 +180,8 @@ impl Machine {
         value: &[u8],
         out: &mut Vec<Event>,
     ) -> Result<(), LineFault>
-        ensures { Takes (state_of self.old) (Gives name.now (unescaped value.now)) result (state_of self.new) out.old.items out.new.items }
+        ensures { Takes (state_of self.old) (Gives name.now (unescaped value.now)) result
+            (state_of self.new) out.old.items out.new.items }
     {
         if !self.is_giving() {
             return Err(LineFault::Kind(DocKind::NotHere));
@@ -224,7 +230,8 @@ impl Machine {
 
     /// A line that is passed by.
     fn pass(&mut self, alloc: Global, out: &mut Vec<Event>) -> Result<(), LineFault>
-        ensures { Takes (state_of self.old) Passed result (state_of self.new) out.old.items out.new.items }
+        ensures { Takes (state_of self.old) Passed result
+            (state_of self.new) out.old.items out.new.items }
     {
         if self.names.is_empty() {
             return Ok(());
@@ -299,7 +306,8 @@ fn give_text(out: &mut Vec<Event>, text: Vec<u8>) -> Result<(), AllocError>
 
 /// Appends the text of a run that has ended, and the event that ends it.
 fn give(out: &mut Vec<Event>, text: Vec<u8>, event: Event) -> Result<(), AllocError>
-    ensures given { OnOk result (out.new.items ≡ out.old.items ++ (text_event text.items ++ event ∷ [])) }
+    ensures given { OnOk result (out.new.items ≡
+        out.old.items ++ (text_event text.items ++ event ∷ [])) }
     ensures kept { OnErr result (out.new.items ≡ out.old.items) }
 {
     let before = out.len();

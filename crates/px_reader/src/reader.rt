@@ -24,11 +24,11 @@ pub struct Reader {
 }
 
 impl Reader {
-    ghost use Rattle.std.specs.Prelude.{◌≡◌, ◌++◌, [], List, ℕ, true, take, IfOk, OnOk, OnErr, IfErr};
+    ghost use Rattle.std.specs.Prelude.{◌≡◌, ◌++◌, [], List, ℕ, take, IsTrue, IfOk, OnOk, OnErr, IfErr};
     ghost use Rattle.px_reader.specs.declared.event.Event as events;
     ghost use Rattle.px_reader.specs.declared.fault.ReaderFault as faults;
     ghost use Rattle.px_reader.specs.Lines.{is_ended, has_no_feed};
-    ghost use Rattle.px_reader.specs.Reading.{HasRead, HasFailed, IsFirstFault, IsLastFault, ReadsOn, ReadsAll, GivesOn, EndsTree};
+    ghost use Rattle.px_reader.specs.Reading.{HasRead, HasFailed, ReadsPart, GivesMore, FailsBy, EndsWhole, FailsAtEnd, ReadsLines};
     ghost use Rattle.px_reader.specs.States.{state_of, Judging};
 
     /// A reader before its first document. It fails only where memory is refused.
@@ -47,11 +47,12 @@ impl Reader {
     /// Takes the next bytes of the document, and appends the events that are known. A line is
     /// judged when its line feed comes. Once a fault has come, each call answers it.
     pub fn feed(&mut self, piece: &[u8], out: &mut Vec<Event>) -> Result<(), ReaderFault>
-        ensures reads { OnOk result ((bytes : List ℕ) (given : List events.Event) → HasRead self.old bytes given → ReadsOn self.new (bytes ++ piece.now) given out.old.items out.new.items) }
-        ensures gives { (bytes : List ℕ) (given : List events.Event) → HasRead self.old bytes given → GivesOn given out.old.items out.new.items }
-        ensures fault { IfErr result (λ fault. (bytes : List ℕ) (given : List events.Event) → HasRead self.old bytes given → IsFirstFault (bytes ++ piece.now) fault) }
+        ensures reads { OnOk result (ReadsPart self.old self.new piece.now out.old.items out.new.items) }
+        ensures gives { GivesMore self.old out.old.items out.new.items }
+        ensures fault { IfErr result (λ fault. FailsBy self.old piece.now fault) }
         ensures failed { IfErr result (λ fault. HasFailed self.new fault) }
-        ensures stays { (fault : faults.ReaderFault) → HasFailed self.old fault → (result ≡ Err fault) × (out.new.items ≡ out.old.items) }
+        ensures stays { (fault : faults.ReaderFault) → HasFailed self.old fault →
+            (result ≡ Err fault) × (out.new.items ≡ out.old.items) }
     {
         if let Some(fault) = self.fault {
             return Err(fault);
@@ -67,12 +68,13 @@ impl Reader {
     /// known by it. It answers `Truncated` where no root was closed. At Ok the next document may
     /// come; once a fault has come, each call answers it.
     pub fn end(&mut self, out: &mut Vec<Event>) -> Result<(), ReaderFault>
-        ensures tree { OnOk result ((bytes : List ℕ) (given : List events.Event) → HasRead self.old bytes given → EndsTree bytes given out.old.items out.new.items) }
+        ensures tree { OnOk result (EndsWhole self.old out.old.items out.new.items) }
         ensures ready { OnOk result (HasRead self.new [] []) }
-        ensures gives { (bytes : List ℕ) (given : List events.Event) → HasRead self.old bytes given → GivesOn given out.old.items out.new.items }
-        ensures fault { IfErr result (λ fault. (bytes : List ℕ) (given : List events.Event) → HasRead self.old bytes given → IsLastFault bytes fault) }
+        ensures gives { GivesMore self.old out.old.items out.new.items }
+        ensures fault { IfErr result (λ fault. FailsAtEnd self.old fault) }
         ensures failed { IfErr result (λ fault. HasFailed self.new fault) }
-        ensures stays { (fault : faults.ReaderFault) → HasFailed self.old fault → (result ≡ Err fault) × (out.new.items ≡ out.old.items) }
+        ensures stays { (fault : faults.ReaderFault) → HasFailed self.old fault →
+            (result ≡ Err fault) × (out.new.items ≡ out.old.items) }
     {
         if let Some(fault) = self.fault {
             return Err(fault);
@@ -88,9 +90,9 @@ impl Reader {
     /// Takes the lines that end in the piece, and keeps what is behind them.
     fn take_piece(&mut self, piece: &[u8], out: &mut Vec<Event>) -> Result<(), ReaderFault>
         ensures same { self.new.fault ≡ self.old.fault }
-        ensures reads { OnOk result ((bytes : List ℕ) (given : List events.Event) → HasRead self.old bytes given → ReadsOn self.new (bytes ++ piece.now) given out.old.items out.new.items) }
-        ensures gives { (bytes : List ℕ) (given : List events.Event) → HasRead self.old bytes given → GivesOn given out.old.items out.new.items }
-        ensures fault { IfErr result (λ fault. (bytes : List ℕ) (given : List events.Event) → HasRead self.old bytes given → IsFirstFault (bytes ++ piece.now) fault) }
+        ensures reads { OnOk result (ReadsPart self.old self.new piece.now out.old.items out.new.items) }
+        ensures gives { GivesMore self.old out.old.items out.new.items }
+        ensures fault { IfErr result (λ fault. FailsBy self.old piece.now fault) }
     {
         let mut rest = piece;
         while let Some(feed) = memchr(b'\n', rest) {
@@ -102,10 +104,10 @@ impl Reader {
 
     /// Takes the part of the piece that ends a line.
     fn end_line(&mut self, part: &[u8], out: &mut Vec<Event>) -> Result<(), ReaderFault>
-        requires { is_ended part.now ≡ true }
+        requires { IsTrue (is_ended part.now) }
         ensures same { self.new.fault ≡ self.old.fault }
-        ensures reads { OnOk result ((bytes : List ℕ) (given : List events.Event) → HasRead self.old bytes given → ReadsOn self.new (bytes ++ part.now) given out.old.items out.new.items) }
-        ensures fault { IfErr result (λ fault. (bytes : List ℕ) (given : List events.Event) → HasRead self.old bytes given → IsFirstFault (bytes ++ part.now) fault) }
+        ensures reads { OnOk result (ReadsPart self.old self.new part.now out.old.items out.new.items) }
+        ensures fault { IfErr result (λ fault. FailsBy self.old part.now fault) }
         ensures kept { OnErr result (out.new.items ≡ out.old.items) }
     {
         let Some(extent) = self.extent.with_line(part.len()) else {
@@ -124,7 +126,9 @@ impl Reader {
         ensures extent { self.new.extent ≡ self.old.extent }
         ensures kept { OnOk result (self.new.kept.items ≡ []) }
         ensures given { OnErr result (out.new.items ≡ out.old.items) }
-        ensures judged { (begun : List ℕ) → self.old.kept.items ≡ take 1_048_579 begun → Judging (state_of self.old.machine) (begun ++ part.now) result (state_of self.new.machine) out.old.items out.new.items }
+        ensures judged { (begun : List ℕ) → self.old.kept.items ≡ take 1_048_579 begun →
+            Judging (state_of self.old.machine) (begun ++ part.now) result (state_of self.new.machine)
+                out.old.items out.new.items }
     {
         if self.kept.is_empty() {
             return self.machine.judge(self.alloc, part, out);
@@ -137,10 +141,11 @@ impl Reader {
 
     /// Keeps the part of the piece that begins a line, or goes on with it.
     fn begin_line(&mut self, part: &[u8]) -> Result<(), ReaderFault>
-        requires { has_no_feed part.now ≡ true }
+        requires { IsTrue (has_no_feed part.now) }
         ensures same { self.new.fault ≡ self.old.fault }
-        ensures reads { OnOk result ((bytes : List ℕ) (given : List events.Event) → HasRead self.old bytes given → HasRead self.new (bytes ++ part.now) given) }
-        ensures fault { IfErr result (λ fault. (bytes : List ℕ) (given : List events.Event) → HasRead self.old bytes given → IsFirstFault (bytes ++ part.now) fault) }
+        ensures reads { OnOk result ((bytes : List ℕ) (given : List events.Event) →
+            HasRead self.old bytes given → HasRead self.new (bytes ++ part.now) given) }
+        ensures fault { IfErr result (λ fault. FailsBy self.old part.now fault) }
     {
         let Some(extent) = self.extent.with_bytes(part.len()) else {
             return Err(self.extent.fault(LineFault::Kind(DocKind::TooBig)));
@@ -152,9 +157,9 @@ impl Reader {
 
     /// Judges what no line feed ends, and whether the root is closed.
     fn finish(&mut self, out: &mut Vec<Event>) -> Result<(), ReaderFault>
-        ensures tree { OnOk result ((bytes : List ℕ) (given : List events.Event) → HasRead self.old bytes given → EndsTree bytes given out.old.items out.new.items) }
-        ensures gives { (bytes : List ℕ) (given : List events.Event) → HasRead self.old bytes given → GivesOn given out.old.items out.new.items }
-        ensures fault { IfErr result (λ fault. (bytes : List ℕ) (given : List events.Event) → HasRead self.old bytes given → IsLastFault bytes fault) }
+        ensures tree { OnOk result (EndsWhole self.old out.old.items out.new.items) }
+        ensures gives { GivesMore self.old out.old.items out.new.items }
+        ensures fault { IfErr result (λ fault. FailsAtEnd self.old fault) }
     {
         let line = self.take_last(out)?;
         if !self.machine.is_behind_root() {
@@ -168,8 +173,9 @@ impl Reader {
 
     /// Judges what no line feed ends, and counts all lines.
     fn take_last(&mut self, out: &mut Vec<Event>) -> Result<u64, ReaderFault>
-        ensures reads { IfOk result (λ lines. (bytes : List ℕ) (given : List events.Event) → HasRead self.old bytes given → ReadsAll (state_of self.new.machine) lines bytes given out.old.items out.new.items) }
-        ensures fault { IfErr result (λ fault. (bytes : List ℕ) (given : List events.Event) → HasRead self.old bytes given → IsLastFault bytes fault) }
+        ensures reads { IfOk result (λ lines.
+            ReadsLines self.old (state_of self.new.machine) lines out.old.items out.new.items) }
+        ensures fault { IfErr result (λ fault. FailsAtEnd self.old fault) }
         ensures kept { OnErr result (out.new.items ≡ out.old.items) }
     {
         if self.kept.is_empty() {
@@ -194,7 +200,8 @@ impl Reader {
 
 /// Appends the part of a line to what is kept of it.
 fn keep(kept: &mut Vec<u8>, part: &[u8]) -> Result<(), AllocError>
-    ensures { OnOk result (kept.new.items ≡ kept.old.items ++ take (1_048_579 - length kept.old.items) part.now) }
+    ensures { OnOk result (kept.new.items ≡
+        kept.old.items ++ take (1_048_579 - length kept.old.items) part.now) }
 {
     let room = MAX_KEPT.saturating_sub(kept.len());
     let end = room.min(part.len());
