@@ -1,13 +1,11 @@
 -- How bytes are cut into lines, and lines across pieces.
-use Rattle.std.proofs.Common.{◌≡◌, ℕ, zero, suc, ◌+◌, ◌≤◌, ◌<◌, Bool, true, false, ◌&&◌, not, List, [], ◌∷◌, ◌++◌, length, get_or, take, ◌-◌, refl, ap, sym, ◌∙◌, ◌==◌, if◌then◌else◌, inl, inr, ◌⊎◌, cond, IsUtf8, ◌↔◌, append_assoc, length-append, arith}
+use Rattle.std.proofs.Common.{◌≡◌, ℕ, suc, ◌+◌, ◌≤◌, ◌<◌, Bool, true, false, ◌&&◌, not, List, [], ◌∷◌, ◌++◌, length, get_or, take, ◌-◌, refl, ap, sym, ◌∙◌, ◌==◌, if◌then◌else◌, inl, inr, ◌⊎◌, append_assoc, length-append, arith}
 use Rattle.std.proofs.lemmas.Bool.{and_parts, not-true}
 use Rattle.std.specs.Cmp.Derive.{both_true}
-use Rattle.std.specs.Str.{IsAscii}
-use Rattle.std.specs.List.{list_all, concat, sum_by, count_by}
+use Rattle.std.specs.List.{concat, sum_by}
 use Rattle.std.proofs.lemmas.Bool.Decides.{eqb_tells}
 use Rattle.std.proofs.lemmas.List.{take-append-le, take_at, take_all, take_more, length_push}
 use Rattle.std.proofs.lemmas.List.Sums.{sum_by-cons}
-use Rattle.std.proofs.lemmas.Str.{IsUtf8-append, IsUtf8-take, IsCharBoundary-at_seam, IsUtf8-from_ascii}
 use Rattle.px_reader.specs.Lines.{has_no_feed, is_whole, is_ended, lines_of, onto_first, without_end}
 
 -- the bytes without the CR that they may end with

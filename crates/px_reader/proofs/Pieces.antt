@@ -1,9 +1,8 @@
 -- Bytes of which only a front is known, and what holds however they go on.
-use Rattle.std.proofs.Common.{◌≡◌, ℕ, ◌+◌, ◌-◌, ◌<◌, ◌≤◌, true, not, ◌==◌, cond, List, [], ◌∷◌, ◌++◌, length, take, ◌⊎◌, inl, inr, refl, ap, sym, ◌∙◌, subst, Some, append_assoc, length-append, arith}
-use Rattle.std.specs.List.{count_by, sum_by}
-use Rattle.std.proofs.lemmas.Bool.{cases_lt, and_parts, not-true}
+use Rattle.std.proofs.Common.{◌≡◌, ℕ, ◌+◌, ◌-◌, ◌<◌, ◌≤◌, true, not, List, [], ◌∷◌, ◌++◌, length, take, ◌⊎◌, inl, inr, refl, ap, sym, ◌∙◌, subst, Some, append_assoc, length-append, arith}
+use Rattle.std.specs.List.{sum_by}
+use Rattle.std.proofs.lemmas.Bool.{cases_lt}
 use Rattle.std.proofs.lemmas.List.{take_all}
-use Rattle.std.proofs.lemmas.List.Sums.{sum_by-append, sum_by-cons}
 use Rattle.px_text.specs.Nodes.{Root}
 use Rattle.px_reader.specs.declared.event.Event.{Event}
 use Rattle.px_reader.specs.declared.fault.DocKind.{DocKind}
@@ -12,11 +11,11 @@ use Rattle.px_reader.specs.Lines.{Line, lines_of}
 use Rattle.px_reader.specs.Spelling.{Spells, kinds, events_of}
 use Rattle.px_reader.specs.Machine.{State, Before, accepts, runs, open_in, attributes_in}
 use Rattle.px_reader.specs.Judged.{Judged}
-use Rattle.px_reader.specs.Verdicts.{Verdict, IsFaulty, Judges, HasVerdict, Shows, depth, attributes_behind}
+use Rattle.px_reader.specs.Verdicts.{IsFaulty, Judges, Shows, depth, attributes_behind}
 use Rattle.px_reader.proofs.MachineLaws as machine
 use Rattle.px_reader.proofs.Begins.{kinds-append}
-use Rattle.px_reader.proofs.LineCuts.{begun_line, lines_whole, lines_behind, sizes}
-use Rattle.px_reader.specs.Lines.{has_no_feed, is_whole}
+use Rattle.px_reader.proofs.LineCuts.{begun_line}
+use Rattle.px_reader.specs.Lines.{has_no_feed}
 use Rattle.px_reader.proofs.Runs.{step_same}
 use Rattle.px_reader.proofs.Depths.{depth_is, attributes_are}
 use Rattle.px_reader.proofs.Judged.{judged_big}

@@ -1,22 +1,22 @@
 -- How far bytes have been read, one part of a line more, and what is known where they end.
-use Rattle.std.proofs.Common.{◌≡◌, ℕ, zero, suc, ◌+◌, ◌-◌, ◌<◌, ◌≤◌, true, List, [], ◌∷◌, ◌++◌, length, take, refl, ap, sym, ◌∙◌, subst, Some, Result, Ok, Err, append_assoc, append-nil, length-append, arith}
+use Rattle.std.proofs.Common.{◌≡◌, ℕ, zero, suc, ◌+◌, ◌-◌, ◌<◌, ◌≤◌, true, List, [], ◌∷◌, ◌++◌, length, take, refl, ap, sym, ◌∙◌, subst, Ok, Err, append_assoc, append-nil, length-append, arith}
 use Rattle.std.specs.List.{sum_by}
 use Rattle.std.specs.Cmp.Derive.{both_true}
-use Rattle.std.proofs.lemmas.List.{length_push, length-take, take_all}
+use Rattle.std.proofs.lemmas.List.{length_push, length-take}
 use Rattle.std.proofs.lemmas.List.Folds.{list_all-append}
 use Rattle.px_reader.specs.declared.event.Event.{Event}
 use Rattle.px_reader.specs.declared.fault.DocKind.TheVariants.{TooBig}
 use Rattle.px_reader.specs.declared.fault.LineFault.{LineFault}
 use Rattle.px_reader.specs.declared.fault.LineFault.TheVariants.{Kind, LineMemory}
-use Rattle.px_reader.specs.Lines.{lines_of, has_no_feed, is_whole, is_ended, line_of, without_end}
+use Rattle.px_reader.specs.Lines.{lines_of, has_no_feed, is_whole, is_ended}
 use Rattle.px_reader.specs.Spelling.{kinds}
-use Rattle.px_reader.specs.Machine.{State, Before}
+use Rattle.px_reader.specs.Machine.{State}
 use Rattle.px_reader.specs.States.{Judging}
 use Rattle.px_reader.specs.Judged.{Judged, BeginsTree}
 use Rattle.px_reader.specs.Reading.{Reading, IsFirstFault, IsLastFault, fault_at}
 use Rattle.px_reader.specs.Verdicts.{IsFaulty, Judges, HasVerdict}
 use Rattle.px_reader.proofs.LineCuts.{ended_is, whole_push, lines_push, lines_last, lines_behind, lines_whole, sizes}
-use Rattle.px_reader.proofs.Judged.{judged_none, judged_big}
+use Rattle.px_reader.proofs.Judged.{judged_big}
 use Rattle.px_reader.proofs.Prefixes.{given_begins, given_few, kinds_few}
 use Rattle.px_reader.proofs.Pieces.{open_big}
 use Rattle.px_reader.proofs.Taken.{line_taken, line_barred}

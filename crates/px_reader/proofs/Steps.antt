@@ -1,7 +1,7 @@
 -- What each line does to the state, as the code finds it.
 use Rattle.std.proofs.Common.{◌≡◌, ℕ, ◌+◌, ◌<◌, ◌≤◌, Bool, true, false, not, List, [], ◌∷◌, ◌++◌, reverse, length, length-append, refl, ap, sym, ◌∙◌, subst, Some, None, Result, bytes_eq, arith, ◌||◌}
 use Rattle.std.specs.List.{list_any}
-use Rattle.std.proofs.lemmas.List.{reverse-append, nil_from_length, length-reverse}
+use Rattle.std.proofs.lemmas.List.{reverse-append, length-reverse}
 use Rattle.std.proofs.lemmas.List.Folds.{list_any-append}
 use Rattle.std.proofs.lemmas.Slice.Eq.{bytes_eq-Decides}
 use Rattle.px_reader.specs.declared.event.Event.{Event}
@@ -10,8 +10,8 @@ use Rattle.px_reader.specs.declared.machine.Phase.{Phase}
 use Rattle.px_reader.specs.declared.machine.Phase.TheVariants as phases
 use Rattle.px_reader.specs.declared.fault.LineFault.{LineFault}
 use Rattle.px_text.specs.Names.{is_pyx_name}
-use Rattle.px_reader.specs.Lines.{Line, named, Opens, Closes, Gives, Says, all_white}
-use Rattle.px_reader.specs.Machine.{State, Before, Attributes, Inside, After, Step, step, closed, text_event, open_in, attributes_in}
+use Rattle.px_reader.specs.Lines.{Line, named, Opens, Closes, Gives}
+use Rattle.px_reader.specs.Machine.{State, Attributes, Step, step, closed, text_event, open_in, attributes_in}
 use Rattle.px_reader.specs.Spelling.{is_among}
 use Rattle.px_reader.specs.States.{open_text, placed, is_after, is_giving, Takes}
 

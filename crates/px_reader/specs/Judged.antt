@@ -2,7 +2,6 @@
 use Rattle.std.specs.Prelude.{◌≡◌, ℕ, ◌<◌, List, ◌++◌, length, Some}
 use Rattle.px_text.specs.Nodes.{Root}
 use Rattle.px_reader.specs.declared.event.Event.{Event}
-use Rattle.px_reader.specs.Lines.{lines_of}
 use Rattle.px_reader.specs.Machine.{State, Before, runs}
 use Rattle.px_reader.specs.Spelling.{kinds, events_of}
 use Rattle.px_reader.specs.Verdicts.{IsFine}

@@ -128,7 +128,7 @@ impl Reader {
         ensures given { OnErr result (out.new.items ≡ out.old.items) }
         ensures judged { (begun : List ℕ) → self.old.kept.items ≡ take 1_048_579 begun →
             Judging (state_of self.old.machine) (begun ++ part.now) result (state_of self.new.machine)
-                out.old.items out.new.items }
+            out.old.items out.new.items }
     {
         if self.kept.is_empty() {
             return self.machine.judge(self.alloc, part, out);

@@ -1,5 +1,5 @@
 -- The last byte says whether the line has an end.
-use Rattle.std.proofs.Common.{◌≡◌, ◌<◌, sym, arith}
+use Rattle.std.proofs.Common.{sym, arith}
 use Rattle.px_reader.proofs.Ends.{end_none}
 use Rattle.px_reader.proofs.cuts.without_end.Goals as goal
 

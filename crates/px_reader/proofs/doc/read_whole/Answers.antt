@@ -1,9 +1,9 @@
 -- The document is read to its end, or to its fault.
-use Rattle.std.proofs.Common.{◌≡◌, ◌++◌, List, ℕ, length, min, sym}
+use Rattle.std.proofs.Common.{List, ℕ, length, min}
 use Rattle.std.proofs.lemmas.Result.{err_from_is_err_and, on_ok_weaker, IfErr-weaker}
 use Rattle.px_reader.specs.declared.event.Event.{Event}
-use Rattle.px_reader.specs.Reading.{HasRead, IsFirstFault, IsLastFault}
-use Rattle.px_reader.proofs.Feeding.{HasBegun, begun_more, begun_fault, begun_all, two_parts, count_none}
+use Rattle.px_reader.specs.Reading.{HasRead, IsLastFault}
+use Rattle.px_reader.proofs.Feeding.{begun_more, begun_fault, begun_all, two_parts, count_none}
 use Rattle.px_reader.proofs.doc.read_whole.Goals as goal
 
 pub returns-in_err-feed-clause-fault : goal.returns-in_err-feed-clause-fault

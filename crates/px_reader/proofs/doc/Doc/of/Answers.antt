@@ -1,5 +1,5 @@
 -- What was read to its end spells a tree.
-use Rattle.std.proofs.Common.{sym, subst}
+use Rattle.std.proofs.Common.{subst}
 use Rattle.px_reader.specs.Verdicts.{SpellsTree}
 use Rattle.px_reader.proofs.doc.Doc.of.Goals as goal
 

@@ -1,5 +1,5 @@
 -- The line that has begun goes on, or the document is too big.
-use Rattle.std.proofs.Common.{◌≡◌, ◌++◌, ◌+◌, ◌<◌, ◌≤◌, length, sym, subst, arith}
+use Rattle.std.proofs.Common.{◌++◌, ◌+◌, ◌<◌, ◌≤◌, length, sym, subst, arith}
 use Rattle.px_reader.specs.Reading.{IsFirstFault}
 use Rattle.px_reader.specs.States.{state_of}
 use Rattle.px_reader.proofs.Readings.{read_part, read_part_big}

@@ -1,5 +1,5 @@
 -- A line more, or its fault.
-use Rattle.std.proofs.Common.{◌≡◌, ◌++◌, ◌+◌, ◌<◌, ◌≤◌, [], length, sym, ap, ◌∙◌, subst, arith}
+use Rattle.std.proofs.Common.{◌++◌, ◌+◌, ◌<◌, ◌≤◌, [], length, sym, ap, ◌∙◌, subst, arith}
 use Rattle.px_reader.specs.declared.extent.Extent.{Extent}
 use Rattle.px_reader.specs.Reading.{IsFirstFault, fault_at}
 use Rattle.px_reader.specs.States.{state_of}

@@ -1,5 +1,5 @@
 -- The last line, where no line feed ends it.
-use Rattle.std.proofs.Common.{◌≡◌, ◌++◌, ◌+◌, ◌<◌, [], List, length, refl, sym, ap, ◌∙◌, subst, append-nil, Ok, Err, arith, vec_len}
+use Rattle.std.proofs.Common.{◌≡◌, ◌+◌, ◌<◌, [], List, length, sym, ap, ◌∙◌, subst, append-nil, Ok, Err, arith, vec_len}
 use Rattle.px_reader.specs.declared.event.Event.{Event}
 use Rattle.px_reader.specs.Judged.{Judged}
 use Rattle.px_reader.specs.Lines.{lines_of}

@@ -1,8 +1,5 @@
 -- The line that the kept bytes begin and the part ends is judged.
-use Rattle.std.proofs.Common.{◌≡◌, ◌++◌, ◌-◌, ◌∷◌, [], List, ℕ, ◌<◌, length, take, refl, sym, ap, ◌∙◌, subst, length-take, arith, vec_len, OnErr, Result, Ok, Err}
-use Rattle.px_reader.specs.declared.event.Event.{Event}
-use Rattle.px_reader.specs.declared.fault.LineFault.{LineFault}
-use Rattle.px_reader.specs.Machine.{State}
+use Rattle.std.proofs.Common.{◌≡◌, ◌++◌, ◌-◌, ◌∷◌, [], List, ℕ, ◌<◌, length, take, refl, sym, ap, ◌∙◌, subst, length-take, arith, vec_len}
 use Rattle.px_reader.specs.States.{state_of, Judging}
 use Rattle.px_reader.proofs.Feeding.{count_none}
 use Rattle.px_reader.proofs.Kept.{kept_judged, kept_more}

@@ -1,5 +1,5 @@
 -- Line after line of the piece is read, and then what is left of it.
-use Rattle.std.proofs.Common.{◌≡◌, ◌++◌, ◌-◌, ◌+◌, length, take, drop, List, ℕ, [], refl, append-nil, sym, ◌∙◌}
+use Rattle.std.proofs.Common.{◌++◌, ◌-◌, ◌+◌, length, take, drop, List, ℕ, [], refl, append-nil, sym, ◌∙◌}
 use Rattle.std.proofs.lemmas.Result.{err_from_is_err_and, on_ok_weaker, IfErr-weaker}
 use Rattle.px_reader.specs.declared.event.Event.{Event}
 use Rattle.px_reader.specs.Reading.{HasRead, IsFirstFault}

@@ -1,8 +1,5 @@
 -- The lines that have ended are read, and the rest of the piece is left.
-use Rattle.std.proofs.Common.{◌≡◌, ◌++◌, List, ℕ, length}
-use Rattle.px_reader.specs.declared.event.Event.{Event}
-use Rattle.px_reader.specs.declared.reader.Reader.{Reader}
-use Rattle.px_reader.specs.Reading.{HasRead, ReadsOn}
+use Rattle.std.proofs.Common.{◌≡◌, ℕ, length}
 use Rattle.px_reader.proofs.Feeding.{ReadsTo}
 use Rattle.px_reader.proofs.reader.Reader.take_piece.Given as goal
 
