@@ -22,3 +22,5 @@ pub use escapes::unescape;
 pub use names::{
     begins_part, continues_part, is_digit, is_filter_name, is_letter, is_pyx_name, is_white,
 };
+pub use reading::Reading;
+pub use scan::NumberScan;
