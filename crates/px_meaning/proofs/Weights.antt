@@ -18,7 +18,7 @@ use Rattle.px_xpath.specs.Filters.{Way, Arrived, StepThen, Condition, Selects, C
 abbrev mutual
   pub way_weight : Way → ℕ
   way_weight Arrived = 0
-  way_weight (StepThen axis _ conds onward) = conditions_weight conds + way_weight onward + 1
+  way_weight (StepThen axis _ conds onward) = conditions_weight conds + way_weight onward + 2
 
   pub condition_weight : Condition → ℕ
   condition_weight (Selects way) = way_weight way + 1
