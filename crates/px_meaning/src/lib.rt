@@ -14,6 +14,8 @@ mod comparisons;
 mod conditions;
 mod paths;
 mod place;
+#[cfg(test)]
+mod tests;
 
 use paths::{End, steps_hold};
 use place::Place;
