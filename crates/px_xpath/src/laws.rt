@@ -1,0 +1,20 @@
+//! Laws of the definitions: where tokens begin a filter, and that they write at most one.
+
+ghost use Rattle.std.specs.Prelude.{◌≡◌, ◌↔◌, List, true, IsSome};
+ghost use Rattle.px_xpath.specs.Filters.{Way};
+ghost use Rattle.px_xpath.specs.Tokens as tokens;
+ghost use Rattle.px_xpath.specs.Grammar.{Writes};
+ghost use Rattle.px_xpath.specs.Faults.{Begins};
+ghost use Rattle.px_xpath.specs.Machine.{Start, accepts, reaches};
+
+/// Tokens begin a filter exactly where the machine goes on behind them, and write one exactly
+/// where it may end there.
+pub fn machine_is_right()
+    ensures begins { (ts : List tokens.Token) → Begins ts ↔ IsSome (reaches Start ts) }
+    ensures writes { (ts : List tokens.Token) → ((filter : Way) × Writes ts filter) ↔ (accepts Start ts ≡ true) }
+{}
+
+/// Tokens write at most one filter.
+pub fn writes_at_most_one()
+    ensures { (ts : List tokens.Token) (filter other : Way) → Writes ts filter → Writes ts other → filter ≡ other }
+{}
