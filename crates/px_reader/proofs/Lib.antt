@@ -1,3 +1,4 @@
+pub mod Endless
 pub mod MachineLaws
 pub mod Begins
 pub mod Rows

@@ -1,0 +1,12 @@
+//! What a feed asks and what is answered: the lines that are written.
+//!
+//! An [`OutLine`] is the answer to one item of a feed, or to the one document of a match; its
+//! text is that of its `Display`, and [`line_of`] gives it with its line feed. A [`Status`] is how
+//! a run of the program ends.
+#![tactic(auto)]
+
+mod line;
+mod status;
+
+pub use line::{FeedFault, FeedKind, OutLine, line_of};
+pub use status::Status;
