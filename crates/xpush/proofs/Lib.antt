@@ -1,0 +1,6 @@
+pub mod Answering
+pub mod Fronts
+pub mod Lines
+pub mod Reading
+pub mod Saying
+pub mod Stopping

@@ -1,0 +1,20 @@
+-- A piece that is judged goes on from what was read.
+use Rattle.std.proofs.Common.{◌++◌, take, arith, refl, subst}
+use Rattle.std.proofs.lemmas.List.{length-take-le}
+use Rattle.px_reader.specs.declared.fault.ReaderFault.{ReaderFault}
+use Rattle.px_reader.specs.Reading.{IsFirstFault}
+use Rattle.xpush.proofs.Reading.{reads_more, shows_fault}
+use Rattle.xpush.proofs.Stopping.{stopped_by_doc}
+use Rattle.xpush.proofs.document.read_piece.Goals as goal
+
+pub returns-in-Ok-clause-more : goal.returns-in-Ok-clause-more
+returns-in-Ok-clause-more g c = λ least left r _.
+    let next = c.in-Got.ensures.next in
+    let on = c.in-Ok.ensures.reads r.bytes c.args.events.now.items r.read in
+    reads_more least left _ _ _ _ _ _ on.0 _ r next.2 (omega (arith, next.0, length-take-le c.in-Got.count c.read.new.into next.1)) on.1 on.2
+
+pub returns-in-Err-clause-fault : goal.returns-in-Err-clause-fault
+returns-in-Err-clause-fault g c = λ least left r fault e.
+    let P : ReaderFault → Type 0 = λ one. IsFirstFault (r.bytes ++ take c.in-Got.count c.read.new.into) one in
+    let first = c.in-Err.ensures.fault r.bytes c.args.events.now.items r.read in
+    shows_fault least left _ _ _ _ _ fault r c.in-Got.ensures.next.2 (subst P (stopped_by_doc _ c.in-Err.fault c.from.result fault refl c.from.ensures e) first)

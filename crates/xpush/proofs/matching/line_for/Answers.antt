@@ -1,0 +1,12 @@
+-- The line of a filter's text.
+use Rattle.xpush.proofs.Lines.{parsed_lines, refused_line, refused_by_source}
+use Rattle.xpush.proofs.matching.line_for.Goals as goal
+
+pub returns-in-Ok-clause-line : goal.returns-in-Ok-clause-line
+returns-in-Ok-clause-line g c = parsed_lines _ _ _ _ c.line_under.result c.in-Ok.ensures c.line_under.ensures.line
+
+pub returns-in-Err-clause-line : goal.returns-in-Err-clause-line
+returns-in-Err-clause-line g c = refused_line _ _ c.in-Err.fault c.refusal.result c.in-Err.ensures c.refusal.ensures
+
+pub returns-in-Err-clause-failed : goal.returns-in-Err-clause-failed
+returns-in-Err-clause-failed g c = λ e. absurd (refused_by_source c.in-Err.fault c.refusal.result c.refusal.ensures e)

@@ -1,0 +1,88 @@
+-- What a run of the program answers.
+use Rattle.std.specs.Prelude.{◌≡◌, ◌++◌, ◌⊎◌, ℕ, Bool, true, false, List, [], Option, Some, IsTrue}
+use Rattle.px_io.specs.Flows.{AddsTo, IsSpent}
+use Rattle.px_reader.specs.declared.fault.DocKind.TheVariants.{Truncated}
+use Rattle.px_feed.specs.declared.line.FeedKind.{FeedKind}
+use Rattle.px_feed.specs.declared.line.FeedKind.TheVariants.{Doc}
+use Rattle.px_feed.specs.declared.line.OutLine.{OutLine}
+use Rattle.px_feed.specs.declared.line.OutLine.TheVariants.{NoFilter, Faulty, Yes, No}
+use Rattle.px_feed.specs.declared.status.Status.{Status}
+use Rattle.px_feed.specs.declared.status.Status.TheVariants.{Done, Refused, WriteFault, Memory}
+use Rattle.px_feed.specs.Lines.{line_text}
+use Rattle.px_feed.specs.Matches.{AnswersDocument, AnswersMatch, OutMatch, OutShow, status_behind}
+use Rattle.px_xpath.specs.Filters.{Way}
+use Rattle.xpush.specs.Forms.{Form, Matches, Shows}
+
+abbrev pub is_truncated : FeedKind → Bool
+is_truncated (Doc Truncated) = true
+is_truncated _ = false
+
+-- whether a line is known only once the whole input is read
+abbrev pub needs_all : OutLine → Bool
+needs_all Yes = true
+needs_all No = true
+needs_all (Faulty fault) = is_truncated fault.kind
+needs_all _ = false
+
+abbrev pub is_of_filter : OutLine → Bool
+is_of_filter (NoFilter fault) = true
+is_of_filter _ = false
+
+-- The line answers a filter's text and the document that is left in the source. A fault of the filter is answered before anything is read.
+pub record IsLineFor (filter : List ℕ) (left after : Option (List ℕ)) (line : OutLine) : Type 0 where
+  pub answers : (bytes : List ℕ) → left ≡ Some bytes → AnswersMatch filter bytes line
+  pub read_whole : IsTrue (needs_all line) → IsSpent after
+  pub unread : IsTrue (is_of_filter line) → after ≡ left
+
+-- The line answers the document that is left in the source under a filter.
+pub record IsLineUnder (filter : Way) (left after : Option (List ℕ)) (line : OutLine) : Type 0 where
+  pub answers : (bytes : List ℕ) → left ≡ Some bytes → AnswersDocument filter bytes line
+  pub read_whole : IsTrue (needs_all line) → IsSpent after
+  pub of_document : is_of_filter line ≡ false
+
+-- A run of `match` that was not cut short wrote one line, which answers the filter and the document, and ended as the line says.
+pub record Matched (filter : List ℕ) (left after held held_after : Option (List ℕ)) (status : Status) : Type 0 where
+  pub line : OutLine
+  pub is_for : IsLineFor filter left after line
+  pub written : AddsTo held (line_text line) held_after
+  pub ended : status ≡ status_behind line
+
+-- A run of `show` that was not cut short read nothing, and wrote what is shown of the filter.
+pub record Shown (filter : List ℕ) (left after held held_after : Option (List ℕ)) (status : Status) : Type 0 where
+  pub text : List ℕ
+  pub is_for : OutShow filter text status
+  pub written : AddsTo held text held_after
+  pub unread : after ≡ left
+
+-- what a run that was not cut short answers
+abbrev pub Answers : Form → (left after held held_after : Option (List ℕ)) → Status → Type 0
+Answers (Matches filter) = Matched filter
+Answers (Shows filter) = Shown filter
+
+-- the text and the status for a form and the bytes of the source
+abbrev pub OutOf : Form → (bytes text : List ℕ) → Status → Type 0
+OutOf (Matches filter) bytes = OutMatch filter bytes
+OutOf (Shows filter) bytes = OutShow filter
+
+-- These bytes are the front of the output: nothing yet, or a front of its text.
+abbrev pub IsFrontOfOut : Form → (bytes written : List ℕ) → Type 0
+IsFrontOfOut form bytes written =
+    (written ≡ []) ⊎ ((text rest : List ℕ) × (status : Status) × OutOf form bytes text status × (text ≡ written ++ rest))
+
+-- a run that was cut short wrote the front of its output
+pub record WritesFront (form : Form) (left held held_after : Option (List ℕ)) : Type 0 where
+  pub bytes_written : List ℕ
+  pub written : AddsTo held bytes_written held_after
+  pub is_front : (bytes : List ℕ) → left ≡ Some bytes → IsFrontOfOut form bytes bytes_written
+
+-- the run was not cut short
+abbrev pub is_finished : Status → Bool
+is_finished Done = true
+is_finished Refused = true
+is_finished _ = false
+
+-- the run was cut short by its sink or for want of memory
+abbrev pub is_cut_short : Status → Bool
+is_cut_short WriteFault = true
+is_cut_short Memory = true
+is_cut_short _ = false

@@ -1,0 +1,114 @@
+//! The command `match`: whether a document matches a filter.
+
+ghost use Rattle.std.specs.Prelude.{◌≡◌, ◌≤◌, IfOk, Err, IsTrue, if◌then◌else◌};
+ghost use Rattle.px_feed.specs.Matches.{status_behind as status_of_line};
+ghost use Rattle.px_io.specs.Faults.{Rose};
+ghost use Rattle.px_xpath.specs.Whole.{filter as way_of};
+ghost use Rattle.xpush.specs.Answers.{IsLineFor, IsLineUnder, Matched, WritesFront, is_finished, is_cut_short};
+ghost use Rattle.xpush.specs.Forms.{Matches};
+ghost use Rattle.xpush.specs.Stops.{outcome_of, refusal_of};
+
+use crate::document::read_document;
+use crate::output::write_answer;
+use crate::stop::{Cut, Stop};
+use px_feed::{FeedFault, FeedKind, OutLine, Status, line_of};
+use px_io::{Sink, Source};
+use px_meaning::holds;
+use px_tree::build;
+use px_xpath::{Filter, ParseFault, parse};
+use std::alloc::Global;
+
+/// Writes the line for a filter's text and the document that is left in the source.
+pub fn match_document<S: Source, K: Sink>(
+    alloc: Global,
+    filter: &[u8],
+    source: &mut S,
+    sink: &mut K,
+) -> Status
+    ensures not_usage { result ≡ Status.Usage → ⊥ }
+    ensures output { IsTrue (is_finished result) → Matched filter.now (S.left source.old) (S.left source.new) (K.held sink.old) (K.held sink.new) result }
+    ensures front { IsTrue (is_cut_short result) → WritesFront (Matches filter.now) (S.left source.old) (K.held sink.old) (K.held sink.new) }
+    ensures read_fault { result ≡ Status.ReadFault → Rose (S.faults source.old) (S.faults source.new) × (K.held sink.new ≡ K.held sink.old) }
+    ensures write_fault { result ≡ Status.WriteFault → Rose (K.faults sink.old) (K.faults sink.new) }
+    ensures source_counts { S.faults source.old ≤ S.faults source.new }
+    ensures sink_counts { K.faults sink.old ≤ K.faults sink.new }
+{
+    match line_for(alloc, filter, source) {
+        Ok(line) => match line_of(alloc, &line) {
+            Ok(text) => write_answer(text.as_slice(), status_behind(&line), sink),
+            Err(_) => Status::Memory,
+        },
+        Err(Cut::Source) => Status::ReadFault,
+        Err(Cut::Memory) => Status::Memory,
+    }
+}
+
+/// How a match ends that has written its line.
+fn status_behind(line: &OutLine) -> Status
+    ensures status { result ≡ status_of_line line.now }
+    ensures finished { IsTrue (is_finished result) }
+{
+    match line {
+        OutLine::Yes => Status::Done,
+        _ => Status::Refused,
+    }
+}
+
+/// The line for a filter's text and the document that is left in the source. A filter that is
+/// refused is answered before anything is read.
+fn line_for<S: Source>(alloc: Global, text: &[u8], source: &mut S) -> Result<OutLine, Cut>
+    ensures line { IfOk result (λ line. IsLineFor text.now (S.left source.old) (S.left source.new) line) }
+    ensures failed { result ≡ Err Cut.Source → Rose (S.faults source.old) (S.faults source.new) }
+    ensures never_falls { S.faults source.old ≤ S.faults source.new }
+{
+    match parse(alloc, text) {
+        Ok(filter) => line_under(alloc, &filter, source),
+        Err(fault) => refusal(fault),
+    }
+}
+
+/// The line for a filter that is refused.
+fn refusal(fault: ParseFault) -> Result<OutLine, Cut>
+    ensures { result ≡ refusal_of fault }
+{
+    match fault {
+        ParseFault::Filter(fault) => Ok(OutLine::NoFilter(fault)),
+        ParseFault::Memory => Err(Cut::Memory),
+    }
+}
+
+/// The line for the document that is left in the source under the filter.
+fn line_under<S: Source>(alloc: Global, filter: &Filter, source: &mut S) -> Result<OutLine, Cut>
+    ensures line { IfOk result (λ line. IsLineUnder (way_of filter.now) (S.left source.old) (S.left source.new) line) }
+    ensures failed { result ≡ Err Cut.Source → Rose (S.faults source.old) (S.faults source.new) }
+    ensures never_falls { S.faults source.old ≤ S.faults source.new }
+{
+    match read_document(alloc, source) {
+        Ok(events) => match build(alloc, events.as_slice()) {
+            Ok(tree) => Ok(answer(holds(filter, &tree))),
+            Err(_) => Err(Cut::Memory),
+        },
+        Err(stop) => outcome(stop),
+    }
+}
+
+/// The line for a document whose reading was stopped.
+fn outcome(stop: Stop) -> Result<OutLine, Cut>
+    ensures { result ≡ outcome_of stop }
+{
+    match stop {
+        Stop::Doc(fault) => Ok(OutLine::Faulty(FeedFault {
+            line: fault.line,
+            kind: FeedKind::Doc(fault.kind),
+        })),
+        Stop::Source => Err(Cut::Source),
+        Stop::Memory => Err(Cut::Memory),
+    }
+}
+
+/// The line for a document that matches or does not.
+fn answer(matches: bool) -> OutLine
+    ensures { result ≡ (if matches then OutLine.Yes else OutLine.No) }
+{
+    if matches { OutLine::Yes } else { OutLine::No }
+}

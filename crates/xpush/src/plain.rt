@@ -1,0 +1,62 @@
+//! The commands that need no runtime.
+
+ghost use Rattle.std.specs.Prelude.{◌≡◌, ◌≤◌, ◌↔◌, IfSome, IsNone, IsTrue};
+ghost use Rattle.px_io.specs.Faults.{Rose};
+ghost use Rattle.xpush.specs.Answers.{Answers, WritesFront, is_finished, is_cut_short};
+ghost use Rattle.xpush.specs.Forms.{form, form_of, texts};
+
+use crate::matching::match_document;
+use crate::showing::show_filter;
+use crate::words::{Command, command_of};
+use px_feed::Status;
+use px_io::{Sink, Source};
+use std::alloc::Global;
+
+/// Runs the command that the words are, from the source to the sink, and answers its status.
+///
+/// At `Done` and `Refused` the bytes written are the whole output, and at `WriteFault` and
+/// `Memory` its front. After a read fault nothing is written. Words that are in no form read and
+/// write nothing.
+pub fn plain<S: Source, K: Sink>(
+    alloc: Global,
+    words: &[String],
+    source: &mut S,
+    sink: &mut K,
+) -> Status
+    ensures usage { (result ≡ Status.Usage) ↔ IsNone (form_of (texts words.now)) }
+    ensures untouched { result ≡ Status.Usage → (S.left source.new ≡ S.left source.old) × (K.held sink.new ≡ K.held sink.old) }
+    ensures output { IsTrue (is_finished result) → IfSome (form_of (texts words.now)) (λ said.
+        Answers said (S.left source.old) (S.left source.new) (K.held sink.old) (K.held sink.new) result) }
+    ensures front { IsTrue (is_cut_short result) → IfSome (form_of (texts words.now)) (λ said.
+        WritesFront said (S.left source.old) (K.held sink.old) (K.held sink.new)) }
+    ensures read_fault { result ≡ Status.ReadFault → Rose (S.faults source.old) (S.faults source.new) × (K.held sink.new ≡ K.held sink.old) }
+    ensures write_fault { result ≡ Status.WriteFault → Rose (K.faults sink.old) (K.faults sink.new) }
+    ensures source_counts { S.faults source.old ≤ S.faults source.new }
+    ensures sink_counts { K.faults sink.old ≤ K.faults sink.new }
+{
+    match command_of(words) {
+        Some(command) => run_command(alloc, command, source, sink),
+        None => Status::Usage,
+    }
+}
+
+/// Runs the command from the source to the sink.
+fn run_command<S: Source, K: Sink>(
+    alloc: Global,
+    command: Command<'_>,
+    source: &mut S,
+    sink: &mut K,
+) -> Status
+    ensures not_usage { result ≡ Status.Usage → ⊥ }
+    ensures output { IsTrue (is_finished result) → Answers (form command.entry) (S.left source.old) (S.left source.new) (K.held sink.old) (K.held sink.new) result }
+    ensures front { IsTrue (is_cut_short result) → WritesFront (form command.entry) (S.left source.old) (K.held sink.old) (K.held sink.new) }
+    ensures read_fault { result ≡ Status.ReadFault → Rose (S.faults source.old) (S.faults source.new) × (K.held sink.new ≡ K.held sink.old) }
+    ensures write_fault { result ≡ Status.WriteFault → Rose (K.faults sink.old) (K.faults sink.new) }
+    ensures source_counts { S.faults source.old ≤ S.faults source.new }
+    ensures sink_counts { K.faults sink.old ≤ K.faults sink.new }
+{
+    match command {
+        Command::Match { filter } => match_document(alloc, filter, source, sink),
+        Command::Show { filter } => show_filter(alloc, filter, sink),
+    }
+}

@@ -1,0 +1,282 @@
+//! Runs of the program over memory and over failing sources and sinks.
+
+use crate::plain::plain;
+use px_feed::Status;
+use px_io::{MemSink, MemSource, ReadAnswer, Sink, Source, StdSink, StdSource, WriteAnswer};
+use px_text::Bytes;
+use std::alloc::{AllocError, Global};
+use std::io;
+use std::io::{ErrorKind, Read, Write};
+use std::test::Fail;
+
+/// The words, the bytes of the source, and the text and the status that are wanted.
+struct Row {
+    words: &'static [&'static str],
+    source: &'static [u8],
+    text: &'static [u8],
+    status: Status,
+}
+
+const ROWS: [Row; 29] = [
+    Row {
+        words: &["match", "/a/b"],
+        source: b"(a\n(b\n)b\n)a\n",
+        text: b"yes\n",
+        status: Status::Done,
+    },
+    Row {
+        words: &["match", "/b"],
+        source: b"(a\n(b\n)b\n)a\n",
+        text: b"no\n",
+        status: Status::Refused,
+    },
+    Row {
+        words: &["match", "/a"],
+        source: b"(a\nAx 1\n)a\n",
+        text: b"yes\n",
+        status: Status::Done,
+    },
+    Row {
+        words: &["match", "//a[b/text()=1 and .//a[@c>2]]"],
+        source: b"(a\n(b\n-1\n)b\n(a\nAc 3\n)a\n)a\n",
+        text: b"yes\n",
+        status: Status::Done,
+    },
+    Row {
+        words: &["match", "/r[@x != 5]"],
+        source: b"(r\nAx abc\n)r\n",
+        text: b"yes\n",
+        status: Status::Done,
+    },
+    Row {
+        words: &["match", "/r[@x != 5]"],
+        source: b"(r\n)r\n",
+        text: b"no\n",
+        status: Status::Refused,
+    },
+    Row {
+        words: &["match", "/r[not(@x = 5)]"],
+        source: b"(r\n)r\n",
+        text: b"yes\n",
+        status: Status::Done,
+    },
+    Row {
+        words: &["match", "/r[text()=12]"],
+        source: b"(r\n-1\n-2\n)r\n",
+        text: b"yes\n",
+        status: Status::Done,
+    },
+    Row {
+        words: &["match", "/r[text()=12]"],
+        source: b"(r\n-1\n?p\n-2\n)r\n",
+        text: b"no\n",
+        status: Status::Refused,
+    },
+    Row {
+        words: &["match", "/r//@a"],
+        source: b"(r\nAa 1\n)r\n",
+        text: b"yes\n",
+        status: Status::Done,
+    },
+    Row {
+        words: &["match", "/@a"],
+        source: b"(r\nAa 1\n)r\n",
+        text: b"no\n",
+        status: Status::Refused,
+    },
+    Row {
+        words: &["match", "/and[or]"],
+        source: b"(and\n(or\n)or\n)and\n",
+        text: b"yes\n",
+        status: Status::Done,
+    },
+    Row {
+        words: &["match", "/r[@x=.1]"],
+        source: b"(r\nAx  0.100 \n)r\n",
+        text: b"yes\n",
+        status: Status::Done,
+    },
+    Row {
+        words: &["match", "/r[@x=.1]"],
+        source: b"(r\nAx +0.1\n)r\n",
+        text: b"no\n",
+        status: Status::Refused,
+    },
+    Row {
+        words: &["match", "/r[@x=1000000000000000000]"],
+        source: b"",
+        text: b"! filter number-long 6\n",
+        status: Status::Refused,
+    },
+    Row {
+        words: &["match", "/r[(@a or @b) and not(@c)]"],
+        source: b"(r\nAb 1\nAc 1\n)r\n",
+        text: b"no\n",
+        status: Status::Refused,
+    },
+    Row {
+        words: &["match", "/a[b=12]"],
+        source: b"(a\n(b\n-1\n(c\n-2\n)c\n?p\n)b\n)a\n",
+        text: b"yes\n",
+        status: Status::Done,
+    },
+    Row {
+        words: &["match", "/a[b='']"],
+        source: b"(a\n(b\n)b\n)a\n",
+        text: b"yes\n",
+        status: Status::Done,
+    },
+    Row {
+        words: &["match", "/a[text()=\"x\ty\"]"],
+        source: b"(a\r\n-x\\ty\r\n)a",
+        text: b"yes\n",
+        status: Status::Done,
+    },
+    Row {
+        words: &["match", "/a["],
+        source: b"",
+        text: b"! filter not-a-filter 3\n",
+        status: Status::Refused,
+    },
+    Row {
+        words: &["match", "/"],
+        source: b"",
+        text: b"! filter not-a-filter 1\n",
+        status: Status::Refused,
+    },
+    Row {
+        words: &["match", "/a"],
+        source: b"(a\n",
+        text: b"! line 1 truncated\n",
+        status: Status::Refused,
+    },
+    Row {
+        words: &["match", "/a"],
+        source: b"",
+        text: b"! line 0 truncated\n",
+        status: Status::Refused,
+    },
+    Row {
+        words: &["match", "/a"],
+        source: b"(a\n)b\n",
+        text: b"! line 2 not-here\n",
+        status: Status::Refused,
+    },
+    Row {
+        words: &["match", "/a"],
+        source: b"(a\n-\xff\n",
+        text: b"! line 2 not-utf8\n",
+        status: Status::Refused,
+    },
+    Row {
+        words: &["show", " /a [ (b) and(c or d) ]/ text( ) "],
+        source: b"",
+        text: b"/a[b and (c or d)]/text()\n",
+        status: Status::Done,
+    },
+    Row {
+        words: &["show", "/a[.//b/@c = \"x\" or not(./text() < -0.50)]"],
+        source: b"",
+        text: b"/a[.//b/@c=\"x\" or not(text()<-0.5)]\n",
+        status: Status::Done,
+    },
+    Row {
+        words: &["show", "/a[ b[@k] = 'x' ]"],
+        source: b"",
+        text: b"/a[b[@k]=\"x\"]\n",
+        status: Status::Done,
+    },
+    Row {
+        words: &["show", "/a/.."],
+        source: b"",
+        text: b"! filter not-a-filter 3\n",
+        status: Status::Refused,
+    },
+];
+
+/// Lists of words that are in no form.
+const NO_FORMS: [&[&str]; 6] = [
+    &[],
+    &["feeds"],
+    &["match"],
+    &["match", "/a", "/b"],
+    &["show"],
+    &["--help"],
+];
+
+fn strings(alloc: Global, words: &[&str]) -> Result<Vec<String>, AllocError> {
+    let mut all = Vec::new(alloc);
+    for word in words {
+        all.push(String::from_str(alloc, word)?)?;
+    }
+    Ok(all)
+}
+
+#[test]
+fn a_run_writes_its_line_and_ends_with_its_status(rt: HostRuntime) -> Result<(), Fail> {
+    for row in ROWS.iter() {
+        let words = strings(rt.alloc(), row.words)?;
+        let mut source = MemSource::new(Bytes::of(rt.alloc(), row.source)?);
+        let mut sink = MemSink::new(rt.alloc());
+        let status = plain(rt.alloc(), words.as_slice(), &mut source, &mut sink);
+        assert_eq!(rt; sink.held(), row.text, "{:?}", row.words);
+        assert_eq!(rt; status, row.status, "{:?}", row.words);
+    }
+    Ok(())
+}
+
+#[test]
+fn words_in_no_form_are_usage(rt: HostRuntime) -> Result<(), Fail> {
+    for form in NO_FORMS {
+        let words = strings(rt.alloc(), form)?;
+        let mut source = MemSource::new(Bytes::of(rt.alloc(), b"(a\n)a\n")?);
+        let mut sink = MemSink::new(rt.alloc());
+        let status = plain(rt.alloc(), words.as_slice(), &mut source, &mut sink);
+        assert_eq!(rt; status, Status::Usage, "{form:?}");
+        assert_eq!(rt; sink.held(), b"".as_slice());
+    }
+    Ok(())
+}
+
+/// A reader and writer that meets an error at once.
+#[derive(Drop)]
+struct Broken;
+
+impl Read for Broken {
+    fn read(&mut self, _buf: &mut [u8]) -> io::Result<usize> {
+        Err(io::Error::from(ErrorKind::BrokenPipe))
+    }
+}
+
+impl Write for Broken {
+    fn write(&mut self, _buf: &[u8]) -> io::Result<usize> {
+        Err(io::Error::from(ErrorKind::BrokenPipe))
+    }
+
+    fn flush(&mut self) -> io::Result<()> {
+        Ok(())
+    }
+}
+
+#[test]
+fn faults_of_reading_and_writing_end_the_run(rt: HostRuntime) -> Result<(), Fail> {
+    let words = strings(rt.alloc(), &["match", "/a"])?;
+    let mut sink = MemSink::new(rt.alloc());
+    let status = plain(
+        rt.alloc(),
+        words.as_slice(),
+        &mut StdSource::new(Broken),
+        &mut sink,
+    );
+    assert_eq!(rt; status, Status::ReadFault);
+    assert_eq!(rt; sink.held(), b"".as_slice());
+    let mut source = MemSource::new(Bytes::of(rt.alloc(), b"(a\n)a\n")?);
+    let status = plain(
+        rt.alloc(),
+        words.as_slice(),
+        &mut source,
+        &mut StdSink::new(Broken),
+    );
+    assert_eq!(rt; status, Status::WriteFault);
+    Ok(())
+}
