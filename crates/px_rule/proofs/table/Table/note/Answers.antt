@@ -1,0 +1,8 @@
+use Rattle.px_rule.proofs.SplitJoin.{notes}
+use Rattle.px_rule.proofs.Bounds.{some_word}
+use Rattle.px_rule.proofs.table.Table.note.Goals as goal
+
+pub split_seat-requires : goal.split_seat-requires
+split_seat-requires g c =
+    let z = c.args.self.now.words.shared.key in
+    (c.requires.table, some_word c.args.self.now.shape _ c.args.self.now.sized, notes g.L.Law.who g.L.Law.legal g.L.Law.right z c.args.seat.now.id c.args.seat.now.me.0)

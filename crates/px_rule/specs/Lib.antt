@@ -1,0 +1,11 @@
+pub mod Operands
+pub mod Words
+pub mod RightBanks
+pub mod Known
+pub mod Histories
+pub mod Banks
+pub mod Places
+pub mod Rule
+pub mod Steps
+pub mod Clauses
+pub mod Table

@@ -1,0 +1,16 @@
+//! The shared table.
+#![tactic(auto)]
+
+mod law;
+mod op;
+mod plays;
+mod rule;
+mod shape;
+mod table;
+mod view;
+mod words;
+
+pub use law::Law;
+pub use op::Op;
+pub use shape::Shape;
+pub use words::{node_word, path_length, place, step_word};

@@ -1,0 +1,73 @@
+//! Words of facts, and the places at which they are looked for.
+ghost use Rattle.std.specs.Prelude.{◌≡◌, ◌<◌, ◌≤◌};
+ghost use Rattle.px_rule.specs.Operands.{kind_of};
+ghost use Rattle.px_rule.specs.Words.{node_word as word_of_node, step_word as word_of_step, key_of, IsShape, size_of, path_of, long_of};
+
+use crate::op::Op;
+use crate::shape::Shape;
+use std::cmp::min;
+
+/// The word of a node: the set of an element and of the set that the number of its tail names.
+pub fn node_word(element: u32, tail: u32) -> u64
+    requires fields { (element < 1048576) × (tail < 1048576) }
+    ensures word { result ≡ word_of_node element tail }
+{
+    (1 << 60) + (u64::from(element) << 40) + (u64::from(tail) << 20)
+}
+
+/// The word of a step: the operation, its operands and its result.
+pub fn step_word(op: Op, a: u32, b: u32, r: u32) -> u64
+    requires fields { (a < 1048576) × (b < 1048576) × (r < 1048576) }
+    ensures word { result ≡ word_of_step op a b r }
+{
+    (kind(op) << 60) + (u64::from(a) << 40) + (u64::from(b) << 20) + u64::from(r)
+}
+
+// The kind by which words name an operation.
+fn kind(op: Op) -> u64
+    ensures kind { result ≡ kind_of op }
+    ensures short { result < 8 }
+{
+    match op {
+        Op::TextClass => 2,
+        Op::NumberClass => 3,
+        Op::Pop => 4,
+        Op::Add => 5,
+        Op::Push => 6,
+        Op::Mask => 7,
+    }
+}
+
+/// The place at turn `i` of the path of a word, the node places of a bank first.
+pub fn place(shape: &Shape, word: u64, i: u32) -> u32
+    requires shape { IsShape shape.now }
+    requires turn { i < long_of shape.now (key_of word) }
+    ensures place { result ≡ path_of shape.now (key_of word) i }
+    ensures within { result < size_of shape.now }
+{
+    let kind = word >> 60;
+    let a = word >> 40 & 0xf_ffff;
+    let b = word >> 20 & 0xf_ffff;
+    let start = (kind * 40503 + a * 2_654_435_761 + b * 2_246_822_519) % (1 << 32);
+    let nodes = u64::from(shape.node_places());
+    let steps = u64::from(shape.step_places());
+    let at = if kind == 1 {
+        1 + (start + u64::from(i)) % (nodes - 1)
+    } else {
+        nodes + (start + u64::from(i)) % steps
+    };
+    at as u32
+}
+
+/// How many places the path of a word has.
+pub fn path_length(shape: &Shape, word: u64) -> u32
+    requires shape { IsShape shape.now }
+    ensures length { result ≡ long_of shape.now (key_of word) }
+    ensures short { (0 < result) × (result ≤ 64) }
+{
+    if word >> 60 == 1 {
+        min(64, shape.node_places() - 1)
+    } else {
+        min(64, shape.step_places())
+    }
+}
