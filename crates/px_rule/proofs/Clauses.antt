@@ -1,6 +1,6 @@
 -- The rule gives each of its clauses.
-use Rattle.std.proofs.Common.{◌≡◌, ◌≢◌, ℕ, ◌+◌, ◌<◌, ◌≤◌, Bool, true, false, List, [], ◌∷◌, ◌++◌, map, length, take, refl, sym, ap, ◌∙◌, subst, Some}
-use Rattle.std.specs.Prelude.{slice_index, All}
+use Rattle.std.proofs.Common.{◌≡◌, ℕ, ◌<◌, ◌≤◌, List, [], ◌∷◌, ◌++◌, length, take, sym, ap, ◌∙◌, subst}
+use Rattle.std.specs.Prelude.{All}
 use Rattle.std.proofs.lemmas.List.Elements.{All-weaker}
 use mathlib.Core.Option.{some}
 use lib.ListN.{get_elem?}
@@ -19,7 +19,7 @@ use Rattle.px_rule.specs.Histories.{Begins, named}
 use Rattle.px_rule.specs.Banks.{Reached, Where}
 use Rattle.px_rule.specs.Places.{Stays}
 use Rattle.px_rule.specs.Rule.{is_desk, past_of, stay_of, touch_of, Rule}
-use Rattle.px_rule.specs.Clauses.{Clauses, OneDesk, Prefixes, Passes, BankWords, InsideStands, KeptStands, RightBanks, OneBuilt, BusyCounted, Entries}
+use Rattle.px_rule.specs.Clauses.{Clauses}
 use Rattle.px_rule.proofs.Views.{whole_at}
 
 module _ {E : Type 0} (who : E → ℕ) (legal : List E → Type 0) (right : List E → Op → Operand → Operand → List ℕ → Type 0) (z : Shape) where

@@ -8,7 +8,7 @@ use Rattle.px_rule.specs.declared.view.Found.{Found}
 use Rattle.px_rule.specs.Operands.{kind_of, Operand, set_of, first_is_set, second_is_set}
 use Rattle.px_rule.specs.Words.{node_word, step_word, Small}
 use Rattle.px_rule.specs.RightBanks.{SetAt, Means, as_index, as_set, RightBank}
-use Rattle.px_rule.specs.Known.{Agrees, named, Has, KeptSet, Stands, plain, answered}
+use Rattle.px_rule.specs.Known.{Agrees, named, KeptSet, Stands, plain, answered}
 use Rattle.px_rule.proofs.RightBanks.{one_set}
 
 -- the operation of a kind, and TextClass for another number

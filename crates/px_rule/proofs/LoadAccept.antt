@@ -1,42 +1,28 @@
 -- Load and Accept keep the rule, and tell what they tell.
-use Rattle.std.proofs.Common.{◌≡◌, ◌≢◌, ℕ, suc, ◌+◌, ◌-◌, ◌*◌, ◌%◌, ◌^◌, ◌<◌, ◌≤◌, Bool, true, false, cond, eqb, List, [], ◌∷◌, ◌++◌, map, length, set, take, refl, sym, ap, ◌∙◌, subst, arith, length-set, get_or-set_same, leb, le-leb, leb-true, mul-le-mul_right, suc-mul, lt_of_not-le}
-use Rattle.std.specs.Prelude.{slice_index, slice_set, bit_and, Some, None}
-use Rattle.std.proofs.lemmas.List.{set-get_or, get_or-set_other, map-set, take-append-le}
-use mathlib.Core.Option.{some, some-injective}
-use lib.ListN.{get_elem?}
-use prog.Atomic.{either}
-use Rattle.atomic_table.specs.Table.{State, Me, Act, Valid, stepped, Allows, Splits, Joins, carried_after, keeps}
-use Rattle.atomic_table.proofs.Lists.{set_again, set_else, at_map}
+use Rattle.std.proofs.Common.{◌≡◌, ℕ, suc, ◌+◌, ◌*◌, ◌%◌, ◌^◌, ◌<◌, cond, List, [], ◌∷◌, ◌++◌, map, length, set, refl, sym, ap, ◌∙◌, subst, arith, length-set, get_or-set_same, leb}
+use Rattle.std.specs.Prelude.{slice_index, slice_set, Some}
+use Rattle.std.proofs.lemmas.List.{set-get_or, get_or-set_other}
+use Rattle.atomic_table.specs.Table.{State, Me, Act, Valid, stepped, Allows, carried_after, keeps}
+use Rattle.atomic_table.proofs.Lists.{set_again}
 use Rattle.px_rule.specs.declared.op.Op.{Op}
-use Rattle.px_rule.specs.declared.view.Past.{Past}
-use Rattle.px_rule.specs.declared.view.Kind.TheVariants.{Desk, Pass}
+use Rattle.px_rule.specs.declared.view.Kind.TheVariants.{Desk}
 use Rattle.px_rule.specs.Operands.{Operand}
-use Rattle.px_rule.specs.Words.{nodes_of, steps_of, words_of, packed, mask, size_of, bank_at, place_at, bank_word, place_word, path_of, long_of}
-use Rattle.px_rule.specs.RightBanks.{RightBank}
-use Rattle.px_rule.specs.Known.{MayPut}
-use Rattle.px_rule.specs.Histories.{Histories, named}
-use Rattle.px_rule.specs.Banks.{one_if, in_bank, Reached, Where, Banks, Turned, stand}
+use Rattle.px_rule.specs.Words.{nodes_of, steps_of, size_of, place_at, bank_word, place_word, path_of, long_of}
+use Rattle.px_rule.specs.Histories.{Histories}
+use Rattle.px_rule.specs.Banks.{Banks}
 use Rattle.px_rule.specs.Places.{Places}
-use Rattle.px_rule.specs.Rule.{is_pass, is_desk, Alike, past_of, stay_of, touch_of, Rule}
-use Rattle.px_rule.specs.Steps.{is_note, is_pass_note, MayWrite, CanJoin, joined, loaded, accepted, entered, went, claimed, looked, written, Loads, Accepts, Enters, Leaves, Claims, Zeroed, restood, stay_note, stay_pass, stay_met, touch_none, whole_asking, whole_more, whole_pass, whole_heard, whole_note, whole_met, whole_spent, Published, Looked, Written, Shown}
+use Rattle.px_rule.specs.Rule.{Alike, past_of, stay_of, touch_of, Rule}
+use Rattle.px_rule.specs.Steps.{loaded, accepted, Loads, Accepts}
 use Rattle.px_rule.specs.declared.shape.Shape.{Shape}
 use Rattle.px_rule.specs.declared.view.View.{View}
-use Rattle.px_rule.specs.declared.view.Place.TheVariants.{Outside, Inside}
 use Rattle.px_rule.specs.declared.view.Stand.{Stand}
 use Rattle.px_rule.specs.declared.view.Stay.{Stay}
 use Rattle.px_rule.specs.declared.view.Touch.{Touch}
-use Rattle.px_rule.proofs.EnterLeave as bank_steps
-use Rattle.px_rule.proofs.ClaimPublish as claim_steps
 use Rattle.px_rule.proofs.Places as place_steps
 use Rattle.px_rule.proofs.Histories as past_steps
-use Rattle.px_rule.proofs.NotesOfBanks as tell_steps
-use Rattle.px_rule.proofs.Views.{put, each_join, all_at}
-use mathlib.Core.List.{map-append}
-
-use Rattle.px_rule.proofs.WordChanges.{zero_apart, bank_apart, bank_turned, bank_is, place_is, place_within, place_here, place_beside, place_else, bank_stays}
 use Rattle.px_rule.specs.Clauses.{Moment}
 use Rattle.px_rule.proofs.Clauses.{clauses_of}
-use Rattle.px_rule.proofs.Assembly.{assembled, same_past, same_banks, same_places, on_bank, on_place, small, at_past, at_stay, at_touch, desk_stands, inside_stand, same_front, shown_at, cut, no_touches, walks_of, keeps_of, bank_within, inside_pass}
+use Rattle.px_rule.proofs.Assembly.{assembled, same_banks, same_places, small, at_past, at_touch}
 
 module _ {E : Type 0} (who : E → ℕ) (legal : List E → Type 0) (right : List E → Op → Operand → Operand → List ℕ → Type 0) (z : Shape) where
   abbrev St : Type 0

@@ -1,10 +1,10 @@
 -- Each step keeps the rule of the places.
-use Rattle.std.proofs.Common.{◌≡◌, ◌≢◌, ℕ, zero, suc, ◌+◌, ◌<◌, ◌≤◌, Bool, true, cond, eqb, List, [], ◌∷◌, ◌++◌, length, set, get_or, take, refl, sym, ap, ◌∙◌, subst, ⊎_elim, arith, eq-eqb, ne_eqb}
+use Rattle.std.proofs.Common.{◌≡◌, ◌≢◌, ℕ, ◌+◌, ◌<◌, ◌≤◌, Bool, true, cond, eqb, List, [], ◌∷◌, ◌++◌, length, set, take, refl, sym, ap, ◌∙◌, subst, ⊎_elim, arith, eq-eqb, ne_eqb}
 use Rattle.std.specs.Prelude.{All}
 use Rattle.std.proofs.lemmas.List.{take-append-le}
 use Rattle.std.proofs.lemmas.List.Elements.{All-nil, All-cons, All-weaker}
 use mathlib.Core.Logic.{dite}
-use mathlib.Core.Option.{some, some-injective}
+use mathlib.Core.Option.{some}
 use native.Mathlib.Decide.{ℕ_discrete}
 use lib.ListN.{get_elem?}
 use prog.Atomic.{either}
@@ -14,9 +14,9 @@ use Rattle.px_rule.specs.declared.view.Stand.{Stand}
 use Rattle.px_rule.specs.declared.view.Found.{Found}
 use Rattle.px_rule.specs.declared.view.Touch.{Touch}
 use Rattle.px_rule.specs.Operands.{Operand, set_of}
-use Rattle.px_rule.specs.Words.{node_word, key_of}
+use Rattle.px_rule.specs.Words.{key_of}
 use Rattle.px_rule.specs.RightBanks.{SetAt, Means, as_set, IsStep, OnPath, RightBank}
-use Rattle.px_rule.specs.Known.{Agrees, found, Has, Stands, MayPut}
+use Rattle.px_rule.specs.Known.{Agrees, found, MayPut}
 use Rattle.px_rule.specs.Banks.{stand}
 use Rattle.px_rule.specs.Places.{Stays, Places}
 use Rattle.px_rule.specs.Steps.{looked, written}

@@ -1,13 +1,10 @@
 -- What holds of every seat holds of it after each step.
-use Rattle.std.proofs.Common.{◌≡◌, ℕ, ◌+◌, ◌<◌, ◌≤◌, Bool, true, false, cond, eqb, leb, leb-true, leb-false, List, [], ◌∷◌, ◌++◌, length, Option, refl, sym, ap, ◌∙◌, subst, arith, le_trans, length-append}
+use Rattle.std.proofs.Common.{◌≡◌, ℕ, ◌<◌, ◌≤◌, Bool, true, false, cond, leb, leb-true, List, [], length, Option, refl, sym, ap, ◌∙◌, subst, arith}
 use Rattle.px_rule.specs.declared.shape.Shape.{Shape}
 use Rattle.px_rule.specs.declared.view.Kind.{Kind}
 use Rattle.px_rule.specs.declared.view.Kind.TheVariants.{Desk, Pass, DeskNote, PassNote, Spent}
 use Rattle.px_rule.specs.declared.view.Place.{Place}
 use Rattle.px_rule.specs.declared.view.Place.TheVariants.{Outside, Inside, Stray}
-use Rattle.px_rule.specs.declared.view.Past.{Past}
-use Rattle.px_rule.specs.declared.view.Stay.{Stay}
-use Rattle.px_rule.specs.declared.view.Touch.{Touch}
 use Rattle.px_rule.specs.declared.view.View.{View}
 use Rattle.px_rule.specs.Words.{shows}
 use Rattle.px_rule.specs.Rule.{is_desk, is_pass, Alike}
@@ -110,9 +107,11 @@ module _ {E : Type 0} where
   pub in_bank_of : (z : Shape) (bank : ℕ) (v : View E) → IsSeat z bank v → is_in v.stay.place ≡ true → (is_pass v.past.kind ≡ true) × IsIn bank v.stay.place × (bank < z.banks)
   in_bank_of z bank v s e =
       let i = in_its_bank v.stay.place e in
-      let t = s.of_table (bank_in v.stay.place) i in
-      (elim (is_pass v.past.kind) as (λ b. is_pass v.past.kind ≡ b → b ≡ true) [ true ↦ (λ _. refl) | false ↦ (λ none. absurd (nowhere v.stay.place (s.out none) (bank_in v.stay.place) i)) ] refl,
-      subst (λ (k : ℕ). IsIn k v.stay.place) (sym t.0) i, subst (λ (k : ℕ). k < z.banks) (sym t.0) t.1)
+      let t = s.of_table (bank_in v.stay.place) i in (
+        elim (is_pass v.past.kind) as (λ b. is_pass v.past.kind ≡ b → b ≡ true) [ true ↦ (λ _. refl) | false ↦ (λ none. absurd (nowhere v.stay.place (s.out none) (bank_in v.stay.place) i)) ] refl,
+        subst (λ (k : ℕ). IsIn k v.stay.place) (sym t.0) i,
+        subst (λ (k : ℕ). k < z.banks) (sym t.0) t.1,
+      )
 
   pub inside_of : (z : Shape) (bank : ℕ) (v : View E) → IsSeat z bank v → is_inside v.stay.place ≡ true
       → (v.stay.place ≡ Inside (bank_in v.stay.place) (version_in v.stay.place)) × (bank ≡ bank_in v.stay.place) × (bank < z.banks) × (version_in v.stay.place ≤ length v.past.seen) × (is_pass v.past.kind ≡ true)

@@ -75,8 +75,11 @@ module _ {A : Type 0} where
   pub present_set : (P : A → Type 0) (views : List A) (d i : ℕ) (w : A) → (v : A) × (get_elem? views d ≡ some v) × P v → ((v : A) → get_elem? views i ≡ some v → d ≡ i → P v → P w)
       → (v : A) × (get_elem? (set views i w) d ≡ some v) × P v
   present_set P views d i w there also = dite (ℕ_discrete d i)
-      (λ yes. (w, ap (λ (j : ℕ). get_elem? (set views i w) j) yes ∙ set_here views i w (subst (λ (j : ℕ). j < length views) yes (below views d there.0 there.1)),
-      also there.0 (subst (λ (j : ℕ). get_elem? views j ≡ some there.0) yes there.1) yes there.2))
+      (λ yes. (
+        w,
+        ap (λ (j : ℕ). get_elem? (set views i w) j) yes ∙ set_here views i w (subst (λ (j : ℕ). j < length views) yes (below views d there.0 there.1)),
+        also there.0 (subst (λ (j : ℕ). get_elem? views j ≡ some there.0) yes there.1) yes there.2,
+      ))
       (λ no. (there.0, set_else views i d w no ∙ there.1, there.2))
 
   pub all_at : (P : A → Type 0) (xs : List A) (i : ℕ) (a : A) → get_elem? xs i ≡ some a → All P xs → P a

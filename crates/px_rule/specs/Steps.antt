@@ -16,7 +16,7 @@ use Rattle.px_rule.specs.declared.view.View.{View}
 use Rattle.px_rule.specs.Operands.{Operand}
 use Rattle.px_rule.specs.Words.{packed, version_of, building_of, count_of, shows, nodes_of, steps_of, path_of, long_of}
 use Rattle.px_rule.specs.RightBanks.{SetAt, RightBank}
-use Rattle.px_rule.specs.Known.{found, Has, Agrees, MayPut}
+use Rattle.px_rule.specs.Known.{found, Agrees, MayPut}
 use Rattle.px_rule.specs.Histories.{Begins, named}
 use Rattle.px_rule.specs.Banks.{stand}
 use Rattle.px_rule.specs.Rule.{is_desk, is_pass}

@@ -31,10 +31,7 @@ pub(crate) struct Table<L: Law> {
 }
 
 impl<L: Law> Table<L> {
-    pub(crate) fn create(
-        alloc: Global,
-        shape: Shape,
-    ) -> Result<(Table<L>, Token<L>), AllocError>
+    pub(crate) fn create(alloc: Global, shape: Shape) -> Result<(Table<L>, Token<L>), AllocError>
         requires shape { IsShape shape }
         ensures opens { IfOk result (λ t. (t.0.shape ≡ shape) × (t.1.table_id ≡ t.0.words.shared.table_id) × (t.1.me ≡ (opening_view shape, []))) }
     {
@@ -62,11 +59,7 @@ impl<L: Law> Table<L> {
         self.words.shared.split_seat::<Noting>(seat)
     }
 
-    pub(crate) fn ask<A: Asked<L::Entry>>(
-        &self,
-        pass: &mut Token<L>,
-        entry: &L::Entry,
-    ) -> Token<L>
+    pub(crate) fn ask<A: Asked<L::Entry>>(&self, pass: &mut Token<L>, entry: &L::Entry) -> Token<L>
         requires entry { A.entry ≡ Some entry.now }
         requires table { pass.old.table_id ≡ self.now.words.shared.table_id }
         requires pass { pass.old.me.0.past.kind ≡ Pass (L.who entry.now) }
@@ -185,12 +178,7 @@ impl<L: Law> Table<L> {
             .fetch_and::<Publishing<A>>(desk, bank as usize + 1, !(0xf << 16));
     }
 
-    pub(crate) fn look<A: Aim>(
-        &self,
-        seat: &mut Token<L>,
-        bank: u32,
-        place: u32,
-    ) -> u64
+    pub(crate) fn look<A: Aim>(&self, seat: &mut Token<L>, bank: u32, place: u32) -> u64
         requires aim { (A.bank ≡ bank) × (A.place ≡ place) × (A.shape ≡ self.now.shape) }
         requires table { seat.old.table_id ≡ self.now.words.shared.table_id }
         requires bank { bank < self.now.shape.banks }
@@ -205,13 +193,7 @@ impl<L: Law> Table<L> {
             .load::<Looking<L, A>>(seat, self.index(bank, place))
     }
 
-    pub(crate) fn write<A: Aim>(
-        &self,
-        seat: &mut Token<L>,
-        bank: u32,
-        place: u32,
-        word: u64,
-    ) -> u64
+    pub(crate) fn write<A: Aim>(&self, seat: &mut Token<L>, bank: u32, place: u32, word: u64) -> u64
         requires aim { (A.bank ≡ bank) × (A.place ≡ place) × (A.word ≡ word) × (A.shape ≡ self.now.shape) }
         requires table { seat.old.table_id ≡ self.now.words.shared.table_id }
         requires bank { bank < self.now.shape.banks }
@@ -232,7 +214,9 @@ impl<L: Law> Table<L> {
         ensures index { result ≡ 1 + (self.now.shape.banks + bank * size_of self.now.shape + place) }
         ensures within { result < self.now.words.shared.table_id.words }
     {
-        1 + (self.shape.banks as usize + bank as usize * self.shape.bank_places() as usize + place as usize)
+        1 + (self.shape.banks as usize
+            + bank as usize * self.shape.bank_places() as usize
+            + place as usize)
     }
 }
 

@@ -1,4 +1,3 @@
-use Rattle.std.proofs.Common.{arith}
 use Rattle.px_rule.proofs.SplitJoin.{makes}
 use Rattle.px_rule.proofs.Bounds.{some_word}
 use Rattle.px_rule.proofs.table.Table.pass.Goals as goal
