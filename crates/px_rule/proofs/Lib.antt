@@ -17,4 +17,5 @@ pub mod LookWrite
 pub mod SplitJoin
 pub mod Bounds
 pub mod Opening
+pub mod Paths
 pub mod Seats

@@ -1,5 +1,5 @@
 -- What holds of every seat holds of it after each step.
-use Rattle.std.proofs.Common.{◌≡◌, ℕ, ◌<◌, ◌≤◌, Bool, true, false, cond, leb, leb-true, List, [], length, Option, refl, sym, ap, ◌∙◌, subst, arith}
+use Rattle.std.proofs.Common.{leb-false, ◌∷◌, ◌≡◌, ℕ, ◌<◌, ◌≤◌, Bool, true, false, cond, leb, leb-true, List, [], length, Option, refl, sym, ap, ◌∙◌, subst, arith}
 use Rattle.px_rule.specs.declared.shape.Shape.{Shape}
 use Rattle.px_rule.specs.declared.view.Kind.{Kind}
 use Rattle.px_rule.specs.declared.view.Kind.TheVariants.{Desk, Pass, DeskNote, PassNote, Spent}
@@ -7,8 +7,11 @@ use Rattle.px_rule.specs.declared.view.Place.{Place}
 use Rattle.px_rule.specs.declared.view.Place.TheVariants.{Outside, Inside, Stray}
 use Rattle.px_rule.specs.declared.view.View.{View}
 use Rattle.px_rule.specs.Words.{shows}
+use Rattle.px_rule.specs.Histories.{Begins}
+use Rattle.px_rule.proofs.Views.{all_at}
+use Rattle.px_rule.proofs.Beginnings.{begins_refl, begins_beside}
 use Rattle.px_rule.specs.Rule.{is_desk, is_pass, Alike}
-use Rattle.px_rule.specs.Steps.{IsIn, note_kind, longer, whole_note, whole_pass, whole_met, whole_heard, joined, entered, went}
+use Rattle.px_rule.specs.Steps.{Told, IsIn, note_kind, longer, whole_note, whole_pass, whole_met, whole_heard, joined, entered, went}
 use Rattle.px_rule.specs.Table.{is_in, is_inside, bank_in, version_in, IsSeat}
 
 note_no_pass : (k : Kind) → is_pass (note_kind k) ≡ false
@@ -121,3 +124,12 @@ module _ {E : Type 0} where
       let t = s.of_table (bank_in v.stay.place) i in
       let b = in_bank_of z bank v s (inside_in v.stay.place e) in
       (p, t.0, b.2, s.seen (bank_in v.stay.place) (version_in v.stay.place) p, b.0)
+
+-- A pass that took a note in, and then loaded, has seen all that the note had
+pub sees_note : {E : Type 0} (who : E → ℕ) (legal : List E → Type 0) (v u : View E) (x : ℕ) → Told who legal (whole_met v u).past x → Begins u.past.seen (whole_met v u).past.seen
+sees_note who legal v u x told =
+    let olds = v.past.seen ∷ u.past.seen ∷ v.past.olds in
+    let mine = all_at (λ o. Begins o told.log) olds 0 v.past.seen refl told.olds in
+    let theirs = all_at (λ o. Begins o told.log) olds 1 u.past.seen refl told.olds in
+    elim (leb (length v.past.seen) (length u.past.seen)) as (λ t. leb (length v.past.seen) (length u.past.seen) ≡ t → Begins u.past.seen (cond t u.past.seen v.past.seen))
+    [ true ↦ (λ _. begins_refl u.past.seen) | false ↦ (λ e. let l = leb-false (length v.past.seen) (length u.past.seen) e in begins_beside u.past.seen v.past.seen told.log theirs mine (omega arith)) ] refl

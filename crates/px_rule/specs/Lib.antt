@@ -9,3 +9,4 @@ pub mod Rule
 pub mod Steps
 pub mod Clauses
 pub mod Table
+pub mod Rows

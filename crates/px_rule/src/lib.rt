@@ -9,6 +9,7 @@ mod shape;
 mod shared;
 mod steps;
 mod table;
+mod uses;
 mod view;
 mod words;
 
@@ -16,4 +17,4 @@ pub use law::Law;
 pub use op::Op;
 pub use shape::Shape;
 pub use shared::{Seat, Shared};
-pub use words::{node_word, path_length, place, step_word};
+pub use words::{node_word, path_length, place, stands_at, step_word};

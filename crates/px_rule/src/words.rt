@@ -1,7 +1,7 @@
 //! Words of facts, and the places at which they are looked for.
 ghost use Rattle.std.specs.Prelude.{◌≡◌, ◌<◌, ◌≤◌};
 ghost use Rattle.px_rule.specs.Operands.{kind_of};
-ghost use Rattle.px_rule.specs.Words.{node_word as word_of_node, step_word as word_of_step, key_of, IsShape, size_of, path_of, long_of};
+ghost use Rattle.px_rule.specs.Words.{node_word as word_of_node, step_word as word_of_step, key_of, IsShape, size_of, path_of, long_of, shows};
 
 use crate::op::Op;
 use crate::shape::Shape;
@@ -70,4 +70,11 @@ pub fn path_length(shape: &Shape, word: u64) -> u32
     } else {
         min(64, shape.step_places())
     }
+}
+
+/// Whether the word of a bank shows that the bank stands at the version.
+pub fn stands_at(word: u64, version: u32) -> bool
+    ensures { result ≡ shows version word }
+{
+    word >> 20 == u64::from(version) && word >> 16 & 1 == 0
 }
