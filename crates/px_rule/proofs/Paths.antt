@@ -1,11 +1,11 @@
 -- Where the paths of keys lie, and that a set of one element may be written at the beginning of its path.
-use Rattle.std.proofs.Common.{◌≡◌, ◌≢◌, ℕ, zero, suc, ◌+◌, ◌-◌, ◌*◌, ◌/◌, ◌%◌, ◌^◌, ◌<◌, ◌≤◌, Bool, true, false, cond, eqb, List, [], ◌∷◌, take, min, refl, sym, ap, ◌∙◌, subst, arith, eq-eqb}
+use Rattle.std.proofs.Common.{◌≡◌, ℕ, ◌+◌, ◌-◌, ◌/◌, ◌%◌, ◌<◌, ◌≤◌, Bool, true, false, cond, List, [], min, refl, sym, ap, subst, arith, eq-eqb}
 use Rattle.std.proofs.Math.Nat.{mod-lt}
 use Rattle.std.proofs.Math.Pow.{pow_mono}
 use Rattle.px_rule.specs.declared.op.Op.{Op}
 use Rattle.px_rule.specs.declared.shape.Shape.{Shape}
 use Rattle.px_rule.specs.declared.view.View.{View}
-use Rattle.px_rule.specs.Operands.{Operand, set_of}
+use Rattle.px_rule.specs.Operands.{Operand}
 use Rattle.px_rule.specs.Words.{Small, node_word, key_of, is_node, IsShape, nodes_of, steps_of, size_of, start_of, path_of, long_of}
 use Rattle.px_rule.specs.Known.{named}
 use Rattle.px_rule.specs.Steps.{MayWrite}
@@ -16,10 +16,10 @@ nodes_wide z s = let n : ℕ = nodes_of z in let low : 16 ≤ n = pow_mono {i = 
 pub steps_wide : (z : Shape) → IsShape z → (16 ≤ steps_of z) × (steps_of z ≤ 1048576)
 steps_wide z s = let n : ℕ = steps_of z in let low : 16 ≤ n = pow_mono {i = 4} {j = z.step_bits} s.4 in let high : n ≤ 1048576 = pow_mono {i = z.step_bits} {j = 20} s.5 in (omega arith, omega arith)
 
--- a path has a place
-pub long_some : (z : Shape) (key : ℕ) → IsShape z → 0 < long_of z key
-long_some z key s = let a = nodes_wide z s in let b = steps_wide z s in let n : ℕ = nodes_of z in let m : ℕ = steps_of z in let a' : 16 ≤ n = a.0 in let b' : 16 ≤ m = b.0 in
-    elim (is_node key) as (λ t. 0 < cond t (min 64 (n - 1)) (min 64 m)) [ true ↦ omega arith | false ↦ omega arith ]
+-- a path has 15 places or more
+pub long_wide : (z : Shape) (key : ℕ) → IsShape z → 15 ≤ long_of z key
+long_wide z key s = let a = nodes_wide z s in let b = steps_wide z s in let n : ℕ = nodes_of z in let m : ℕ = steps_of z in let a' : 16 ≤ n = a.0 in let b' : 16 ≤ m = b.0 in
+    elim (is_node key) as (λ t. 15 ≤ cond t (min 64 (n - 1)) (min 64 m)) [ true ↦ omega arith | false ↦ omega arith ]
 
 pub node_is_node : (e t : ℕ) → Small e → Small t → is_node (key_of (node_word e t)) ≡ true
 node_is_node e t se st = eq-eqb (key_of (node_word e t) / 1152921504606846976) 1 (omega arith)
@@ -60,7 +60,7 @@ module _ {E : Type 0} (right : List E → Op → Operand → Operand → List �
         some_word = λ none. omega arith;
         within = let a : ℕ = nodes_of z in let b : ℕ = steps_of z in let l : p < a = low in let r : p < a + b = omega arith in r;
         turn = 0;
-        on_path = (long_some z (key_of w) shape, sym at);
+        on_path = (let l = long_wide z (key_of w) shape in omega arith, sym at);
         before = λ j none. absurd (omega arith);
         as_node = λ _. (e, 0, [], some_place, small, omega arith, refl, tt, named 0 [] refl);
         as_step = λ high. absurd (let a : ℕ = nodes_of z in let l : p < a = low in let h : a ≤ p = high in omega arith);

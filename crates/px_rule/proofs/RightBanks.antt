@@ -5,7 +5,7 @@ use native.Mathlib.Decide.{ℕ_discrete, dec_lt}
 use Rattle.px_rule.specs.declared.op.Op.{Op}
 use Rattle.px_rule.specs.Operands.{Operand, first_is_set, second_is_set}
 use Rattle.px_rule.specs.Words.{node_word, key_of, Small}
-use Rattle.px_rule.specs.RightBanks.{Above, SetAt, Means, as_index, as_set, IsStep, OnPath, RightBank}
+use Rattle.px_rule.specs.RightBanks.{OneNumber, OneSet, Above, SetAt, Means, as_index, as_set, IsStep, OnPath, RightBank}
 
 -- what changed was 0
 abbrev pub Grown : (ℕ → ℕ) → (ℕ → ℕ) → Type 0
@@ -22,8 +22,8 @@ module _ (nodes : ℕ) where
   set_grow mem mem' g s [] h = h
   set_grow mem mem' g s (e ∷ es) h = (h.0, h.1, h.2, h.3, h.4, g s (node_some (mem s) e h.0 h.5) ∙ h.5, h.6, set_grow mem mem' g h.0 es h.7)
 
-  -- a number names one set
-  pub one_set : (mem : ℕ → ℕ) (s : ℕ) (x y : List ℕ) → SetAt nodes mem s x → SetAt nodes mem s y → x ≡ y
+  -- in any bank a number names one set
+  pub one_set : (mem : ℕ → ℕ) → OneSet nodes mem
   one_set mem s [] [] h k = refl
   one_set mem s [] (e ∷ es) h k = absurd (let p = k.1 in omega arith)
   one_set mem s (e ∷ es) [] h k = absurd (let p = h.1 in omega arith)
@@ -45,8 +45,8 @@ module _ (nodes steps : ℕ) (path : ℕ → ℕ → ℕ) (long : ℕ → ℕ) (
       (λ more. absurd ((a.before b.turn more).1 (ap (λ (i : ℕ). key_of (mem i)) (ap (λ (k : ℕ). path k b.turn) same ∙ b.here) ∙ (ap key_of at_q ∙ sym same))))
       (λ no'. let e : a.turn ≡ b.turn = omega arith in sym a.here ∙ ((λ i. path (same i) (e i)) ∙ b.here)))
 
-  -- One number: a set has one number
-  pub one_number : (mem : ℕ → ℕ) → RightBank nodes steps path long right mem → (x : List ℕ) (s t : ℕ) → SetAt nodes mem s x → SetAt nodes mem t x → s ≡ t
+  -- in a right bank a set has one number
+  pub one_number : (mem : ℕ → ℕ) → RightBank nodes steps path long right mem → OneNumber nodes mem
   one_number mem b [] s t h k = h ∙ sym k
   one_number mem b (e ∷ es) s t h k =
       let tails = one_number mem b es h.0 k.0 h.7 k.7 in

@@ -16,7 +16,7 @@ use Rattle.px_rule.specs.Histories.{Begins, Histories, named}
 use Rattle.px_rule.specs.Banks.{Banks}
 use Rattle.px_rule.specs.Places.{Places}
 use Rattle.px_rule.specs.Rule.{is_pass, is_desk, Alike, past_of, stay_of, touch_of, Rule}
-use Rattle.px_rule.specs.Steps.{note_kind, stay_spent, is_note, is_pass_note, CanJoin, joined, stay_note, stay_pass, stay_met, touch_none, whole_asking, whole_more, whole_pass, whole_heard, whole_note, whole_met, whole_spent}
+use Rattle.px_rule.specs.Steps.{stay_spent, is_note, is_pass_note, CanJoin, joined, stay_note, stay_pass, stay_met, touch_none, whole_asking, whole_more, whole_pass, whole_heard, whole_note, whole_met, whole_spent}
 use Rattle.px_rule.specs.declared.shape.Shape.{Shape}
 use Rattle.px_rule.specs.declared.view.View.{View}
 use Rattle.px_rule.specs.declared.view.Stay.{Stay}
@@ -25,6 +25,7 @@ use Rattle.px_rule.proofs.Places as place_steps
 use Rattle.px_rule.proofs.Histories as past_steps
 use Rattle.px_rule.proofs.NotesOfBanks as tell_steps
 use Rattle.px_rule.proofs.Views.{put, each_join}
+use Rattle.px_rule.proofs.Seats.{note_alike, pass_no_desk}
 use Rattle.px_rule.proofs.Assembly.{same_banks, at_past, at_stay, at_touch, cut, no_touches}
 
 -- what the kinds of notes are not
@@ -49,27 +50,6 @@ pass_note_is DeskNote e = absurd (cc)
 pass_note_is (PassNote p) e = refl
 pass_note_is Spent e = absurd (cc)
 
-pass_no_desk : (k : Kind) → is_pass k ≡ true → is_desk k ≡ false
-pass_no_desk Desk e = absurd (cc)
-pass_no_desk (Pass p) e = refl
-pass_no_desk DeskNote e = refl
-pass_no_desk (PassNote p) e = refl
-pass_no_desk Spent e = refl
-
-note_no_pass : (k : Kind) → is_pass (note_kind k) ≡ false
-note_no_pass Desk = refl
-note_no_pass (Pass p) = refl
-note_no_pass DeskNote = refl
-note_no_pass (PassNote p) = refl
-note_no_pass Spent = refl
-
-note_no_desk : (k : Kind) → is_desk (note_kind k) ≡ false
-note_no_desk Desk = refl
-note_no_desk (Pass p) = refl
-note_no_desk DeskNote = refl
-note_no_desk (PassNote p) = refl
-note_no_desk Spent = refl
-
 module _ {E : Type 0} (who : E → ℕ) (legal : List E → Type 0) (right : List E → Op → Operand → Operand → List ℕ → Type 0) (z : Shape) where
   abbrev St : Type 0
   St = State (Unit {0}) (View E)
@@ -79,10 +59,6 @@ module _ {E : Type 0} (who : E → ℕ) (legal : List E → Type 0) (right : Lis
 
   abbrev Holds : St → Type 0
   Holds = Rule who legal right z
-
-  -- a seat that is no desk and no pass walks nowhere and keeps nothing
-  note_alike : (permit : Option E) (v : View E) → Alike (whole_note permit v)
-  note_alike permit v = record { walks = sym (note_no_pass v.past.kind); keeps = sym (note_no_desk v.past.kind); kept = λ _. refl }
 
   same_alike : (v : View E) (permit : Option E) → Alike v → Alike (whole_asking permit v)
   same_alike v permit a = record { walks = a.walks; keeps = a.keeps; kept = a.kept }

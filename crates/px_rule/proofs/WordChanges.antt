@@ -1,5 +1,5 @@
 -- Which word a step changes, and which it leaves.
-use Rattle.std.proofs.Common.{◌≡◌, ◌≢◌, ℕ, suc, ◌+◌, ◌*◌, ◌<◌, ◌≤◌, Bool, true, false, cond, List, length, refl, sym, ap, ◌∙◌, arith, mul-le-mul_right, suc-mul, le-leb, leb, leb-true, lt_of_not-le}
+use Rattle.std.proofs.Common.{◌≡◌, ◌≢◌, ℕ, suc, ◌+◌, ◌*◌, ◌<◌, ◌≤◌, Bool, true, false, cond, List, length, refl, sym, ap, ◌∙◌, arith, mul-le-mul_right, suc-mul, le-leb, leb, leb-true}
 use Rattle.std.specs.Prelude.{slice_index, slice_set}
 use Rattle.std.proofs.lemmas.List.{get_or-set_same, get_or-set_other}
 use Rattle.px_rule.specs.declared.shape.Shape.{Shape}
@@ -28,7 +28,7 @@ module _ (z : Shape) where
   further j k p q n lp lq e less = let l : suc j * n ≤ k * n = mul-le-mul_right n less in let x : ℕ = j * n in let y : ℕ = k * n in let t : suc j * n ≡ x + n = suc-mul j n in let e' : x + q ≡ y + p = e in let l' : suc j * n ≤ y = l in omega arith
 
   same_bank : (j k p q n : ℕ) → p < n → q < n → j * n + q ≡ k * n + p → j ≡ k
-  same_bank j k p q n lp lq e = let a = further j k p q n lp lq e in let b = further k j q p n lq lp (sym e) in omega (arith, lt_of_not-le)
+  same_bank j k p q n lp lq e = let a = further j k p q n lp lq e in let b = further k j q p n lq lp (sym e) in omega arith
 
   pub place_is : (words : List ℕ) (k p : ℕ) → p < size_of z → slice_index words (place_at z k p) ≡ place_word z words k p
   place_is words k p low = sym (ap (λ (t : Bool). cond t (slice_index words (place_at z k p)) 0) (le-leb (suc p) (size_of z) (omega arith)))

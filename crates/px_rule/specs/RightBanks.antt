@@ -21,6 +21,13 @@ module _ (nodes : ℕ) (mem : ℕ → ℕ) where
     as_index : (a : ℕ) → Means false a (index a)
     as_set : (a : ℕ) (x : List ℕ) → SetAt a x → Means true a (set_of x)
 
+  -- One number: a set has one number, and a number names one set
+  abbrev pub OneNumber : Type 0
+  OneNumber = (x : List ℕ) (s t : ℕ) → SetAt s x → SetAt t x → s ≡ t
+
+  abbrev pub OneSet : Type 0
+  OneSet = (s : ℕ) (x y : List ℕ) → SetAt s x → SetAt s y → x ≡ y
+
 -- `path` gives the place at each turn of a key's path, `long` how many turns it has, and `right` says which answers are right.
 module _ (nodes steps : ℕ) (path : ℕ → ℕ → ℕ) (long : ℕ → ℕ) (right : Op → Operand → Operand → List ℕ → Type 0) where
   -- the word is that of a step, whose operands and result name sets and whose answer is right

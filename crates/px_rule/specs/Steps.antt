@@ -15,7 +15,7 @@ use Rattle.px_rule.specs.declared.view.Touch.{Touch}
 use Rattle.px_rule.specs.declared.view.View.{View}
 use Rattle.px_rule.specs.Operands.{Operand}
 use Rattle.px_rule.specs.Words.{packed, version_of, building_of, count_of, shows, nodes_of, steps_of, path_of, long_of}
-use Rattle.px_rule.specs.RightBanks.{SetAt, RightBank}
+use Rattle.px_rule.specs.RightBanks.{OneNumber, OneSet, RightBank}
 use Rattle.px_rule.specs.Known.{found, Agrees, MayPut}
 use Rattle.px_rule.specs.Histories.{Begins, named}
 use Rattle.px_rule.specs.Banks.{stand}
@@ -248,8 +248,8 @@ module _ {E : Type 0} (right : List E → Op → Operand → Operand → List �
     pub bank : RightBank (nodes_of z) (steps_of z) (path_of z) (long_of z) (right (take n v.past.seen)) mem
     pub agrees : Agrees (nodes_of z) (steps_of z) (path_of z) (long_of z) (right (take n v.past.seen)) v.touch.kept k n mem
     pub here : mem p ≡ x
-    pub one_number : (y : List ℕ) (s t : ℕ) → SetAt (nodes_of z) mem s y → SetAt (nodes_of z) mem t y → s ≡ t
-    pub one_set : (s : ℕ) (x y : List ℕ) → SetAt (nodes_of z) mem s x → SetAt (nodes_of z) mem s y → x ≡ y
+    pub one_number : OneNumber (nodes_of z) mem
+    pub one_set : OneSet (nodes_of z) mem
 
   -- the seat may write the word there
   abbrev pub MayWrite : ℕ → ℕ → ℕ → ℕ → View E → Type 0

@@ -110,13 +110,26 @@ mod tests {
         step_bits: 4,
     };
 
+    fn is_shared<T: Send + Sync>(_shared: &T) {}
+
+    fn is_sent<T: Send>(_seat: &T) {}
+
     #[test]
     fn two_passes_see_both_votes(rt: HostRuntime) -> Result<(), Fail> {
         let (shared, mut desk) = Shared::<Votes>::create(rt.alloc(), SMALL)?;
         let mut one = shared.pass(&mut desk);
         let mut two = shared.pass(&mut desk);
+        is_shared(&shared);
+        is_sent(&one);
         assert_eq!(rt; shared.load(&mut two), 0);
-        let version = accept_two(&shared, &mut desk, &mut one, &Vote { pass: 0 }, &mut two, &Vote { pass: 1 });
+        let version = accept_two(
+            &shared,
+            &mut desk,
+            &mut one,
+            &Vote { pass: 0 },
+            &mut two,
+            &Vote { pass: 1 },
+        );
         assert_eq!(rt; version, 2);
         assert_eq!(rt; show(&shared, &mut desk, &mut one), 2);
         assert_eq!(rt; show(&shared, &mut desk, &mut two), 2);

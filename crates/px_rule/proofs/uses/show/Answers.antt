@@ -1,4 +1,4 @@
-use Rattle.std.proofs.Common.{◌≡◌, ◌∙◌, ◌++◌, List, subst, sym, ap}
+use Rattle.std.proofs.Common.{◌≡◌, ◌∙◌, ◌++◌, List, subst, ap}
 use Rattle.px_rule.specs.declared.view.View.{View}
 use Rattle.px_rule.specs.Histories.{Begins}
 use Rattle.px_rule.specs.Steps.{Told, whole_met}
