@@ -6,9 +6,10 @@ use lib.ListN.{get_elem?}
 use Rattle.atomic_table.proofs.Lists.{set_again, set_here}
 use Rattle.px_rule.specs.declared.view.Stand.{Stand}
 use Rattle.px_rule.specs.declared.view.View.{View}
+use Rattle.px_rule.specs.Banks.{stand}
 use Rattle.px_rule.specs.Steps.{restood, Zeroed}
 use Rattle.px_rule.proofs.Views.{below, same_at}
-use Rattle.px_banks.specs.Answers.{IsCleared}
+use Rattle.px_banks.specs.Answers.{IsCleared, taken}
 
 module _ {E : Type 0} where
   abbrev with_stands : View E → List Stand → View E
@@ -27,3 +28,7 @@ module _ {E : Type 0} where
       let b : Stand = record a { zeroed = n } in
       let c : Stand = record a { zeroed = n + 1 } in
       step b (at_now k n v w a has z) ∙ (ap (λ (u : View E). restood k c u) (z a has) ∙ ap (with_stands v) (set-set v.stay.stands k b c))
+
+  -- the bank that was taken
+  pub taken_at : (k new : ℕ) (v w : View E) (a : Stand) → get_elem? v.stay.stands k ≡ some a → w ≡ taken k new v → get_elem? w.stay.stands k ≡ some (stand new 1 0)
+  taken_at k new v w a has e = ap (λ (u : View E). get_elem? u.stay.stands k) e ∙ set_here v.stay.stands k (stand new 1 0) (below v.stay.stands k a has)

@@ -75,6 +75,7 @@ pub fn zero<L: Law>(shared: &Shared<L>, desk: &mut Seat<L>, bank: u32)
     requires desk { desk.old.view.past.kind ≡ Desk }
     requires built { (a : Stand) × (get_elem? desk.old.view.stay.stands bank ≡ some a) × (a.building ≡ 1) × (a.zeroed ≡ 0) }
     ensures table { desk.new.table ≡ desk.old.table }
+    ensures past { desk.new.view.past ≡ desk.old.view.past }
     ensures cleared { IsCleared bank (size_of shared.now.shape) desk.old.view desk.new.view }
 {
     for place in 0..shared.shape().bank_places() {
@@ -89,6 +90,7 @@ pub fn publish<L: Law>(shared: &Shared<L>, desk: &mut Seat<L>, bank: u32)
     requires desk { desk.old.view.past.kind ≡ Desk }
     requires built { (a : Stand) × (get_elem? desk.old.view.stay.stands bank ≡ some a) × (a.building ≡ 1) × (size_of shared.now.shape ≤ a.zeroed) }
     ensures table { desk.new.table ≡ desk.old.table }
+    ensures past { desk.new.view.past ≡ desk.old.view.past }
     ensures view { Published bank desk.old.view desk.new.view }
 {
     shared.publish_step(desk, bank);

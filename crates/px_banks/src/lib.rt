@@ -8,6 +8,8 @@
 
 mod answers;
 mod banks;
+#[cfg(test)]
+mod tests;
 
 pub use answers::{Claim, Enter};
 pub use banks::{claim, enter, leave, publish, zero};

@@ -17,3 +17,6 @@ zero_step-requires-clause-built g c =
 pub loop-place-preserved : goal.loop-place-preserved
 loop-place-preserved g c = let s = c.zero_step.ensures in
     (s.table ∙ c.loop-place.invariant.0, one_more c.args.bank c.loop-place.place c.args.desk.now.view c.loop-place.desk.view c.zero_step.new.desk.view c.loop-place.invariant.1 s.view)
+
+pub returns-clause-past : goal.returns-clause-past
+returns-clause-past g c = let b = c.requires.built in ap (λ v. v.past) (c.loop-place.invariant.1 b.0 b.1)
