@@ -34,13 +34,13 @@ pub fn enter<L: Law>(shared: &Shared<L>, seat: &mut Seat<L>, bank: u32, version:
 }
 
 /// Counts a pass out of the bank that it is in.
-pub fn leave<L: Law>(shared: &Shared<L>, seat: &mut Seat<L>)
-    requires table { seat.old.table ≡ shared.now }
-    requires is_in { is_in seat.old.view.stay.place ≡ true }
-    ensures table { seat.new.table ≡ seat.old.table }
-    ensures view { Leaves seat.old.view seat.new.view }
+pub fn leave<L: Law>(shared: &Shared<L>, pass: &mut Seat<L>)
+    requires table { pass.old.table ≡ shared.now }
+    requires is_in { is_in pass.old.view.stay.place ≡ true }
+    ensures table { pass.new.table ≡ pass.old.table }
+    ensures view { Leaves pass.old.view pass.new.view }
 {
-    shared.leave_step(seat);
+    shared.leave_step(pass)
 }
 
 /// Takes a bank that no call is inside, to build it for a new version. Else it is `Busy`, and the desk keeps the word found.

@@ -8,6 +8,7 @@
 
 mod answers;
 mod banks;
+mod uses;
 #[cfg(test)]
 mod tests;
 
