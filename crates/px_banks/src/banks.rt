@@ -44,13 +44,7 @@ pub fn leave<L: Law>(shared: &Shared<L>, pass: &mut Seat<L>)
 }
 
 /// Takes a bank that no call is inside, to build it for a new version. Else it is `Busy`, and the desk keeps the word found.
-pub fn claim<L: Law>(
-    shared: &Shared<L>,
-    desk: &mut Seat<L>,
-    bank: u32,
-    old: u32,
-    new: u32,
-) -> Claim
+pub fn claim<L: Law>(shared: &Shared<L>, desk: &mut Seat<L>, bank: u32, old: u32, new: u32) -> Claim
     requires table { desk.old.table ≡ shared.now }
     requires bank { bank < shared.now.shape.banks }
     requires desk { desk.old.view.past.kind ≡ Desk }

@@ -8,9 +8,9 @@
 
 mod answers;
 mod banks;
-mod uses;
 #[cfg(test)]
 mod tests;
+mod uses;
 
 pub use answers::{Claim, Enter};
 pub use banks::{claim, enter, leave, publish, zero};
