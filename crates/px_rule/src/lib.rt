@@ -79,6 +79,7 @@ mod words;
 
 pub use law::Law;
 pub use op::Op;
+pub use rule::PushRule;
 pub use shape::Shape;
 pub use shared::{Seat, Shared};
 pub use words::{node_word, path_length, place, stands_at, step_word};
