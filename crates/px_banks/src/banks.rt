@@ -70,6 +70,7 @@ pub fn zero<L: Law>(shared: &Shared<L>, desk: &mut Seat<L>, bank: u32)
     requires built { (a : Stand) × (get_elem? desk.old.view.stay.stands bank ≡ some a) × (a.building ≡ 1) × (a.zeroed ≡ 0) }
     ensures table { desk.new.table ≡ desk.old.table }
     ensures past { desk.new.view.past ≡ desk.old.view.past }
+    ensures ready { (a : Stand) × (get_elem? desk.new.view.stay.stands bank ≡ some a) × (a.building ≡ 1) × (size_of shared.now.shape ≤ a.zeroed) }
     ensures cleared { IsCleared bank (size_of shared.now.shape) desk.old.view desk.new.view }
 {
     for place in 0..shared.shape().bank_places() {

@@ -1,4 +1,4 @@
-use Rattle.std.proofs.Common.{refl, ap, ◌∙◌}
+use Rattle.std.proofs.Common.{rules, refl, ap, ◌∙◌}
 use Rattle.px_banks.proofs.Clearing.{none_yet, at_now, one_more}
 use Rattle.px_banks.proofs.banks.zero.Goals as goal
 
@@ -20,3 +20,9 @@ loop-place-preserved g c = let s = c.zero_step.ensures in
 
 pub returns-clause-past : goal.returns-clause-past
 returns-clause-past g c = let b = c.requires.built in ap (λ v. v.past) (c.loop-place.invariant.1 b.0 b.1)
+
+pub returns-clause-ready : goal.returns-clause-ready
+returns-clause-ready g c =
+    let b = c.requires.built in
+    let n = c.loop-place.place in
+    (record b.0 { zeroed = n }, at_now c.args.bank n c.args.desk.now.view c.loop-place.desk.view b.0 b.1 c.loop-place.invariant.1, b.2, search rules)

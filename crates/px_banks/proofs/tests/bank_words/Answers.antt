@@ -1,10 +1,9 @@
-use Rattle.std.proofs.Common.{rules, ◌≡◌, ◌∙◌, ap, refl, le_refl}
+use Rattle.std.proofs.Common.{rules, ◌≡◌, ◌∙◌, ap, refl}
 use mathlib.Core.Option.{some}
 use lib.ListN.{get_elem?}
 use Rattle.px_rule.specs.declared.view.View.{View}
-use Rattle.px_rule.specs.Words.{size_of}
 use Rattle.px_rule.specs.Banks.{stand}
-use Rattle.px_banks.proofs.Clearing.{taken_at, at_now}
+use Rattle.px_banks.proofs.Clearing.{taken_at}
 use Rattle.px_banks.specs.declared.tests.Vote.{Vote}
 use Rattle.px_banks.proofs.tests.bank_words.Goals as goal
 
@@ -21,11 +20,3 @@ zero-requires-clause-built g c =
     let first : get_elem? c.change-3.new.desk.view.stay.stands 0 ≡ some (stand 0 0 0) = search rules in
     let second = ap (λ (v : View Vote). get_elem? v.stay.stands 0) c.in-Busy.ensures.answer.1 ∙ first in
     (stand 3 1 0, taken_at 0 3 c.claim.new.desk.view c.claim-2.new.desk.view (stand 0 0 0) second c.in-Claimed.ensures.answer.3, refl, refl)
-
-pub publish-requires-clause-built : goal.publish-requires-clause-built
-publish-requires-clause-built g c =
-    let first : get_elem? c.change-3.new.desk.view.stay.stands 0 ≡ some (stand 0 0 0) = search rules in
-    let second = ap (λ (v : View Vote). get_elem? v.stay.stands 0) c.in-Busy.ensures.answer.1 ∙ first in
-    let third = taken_at 0 3 c.claim.new.desk.view c.claim-2.new.desk.view (stand 0 0 0) second c.in-Claimed.ensures.answer.3 in
-    let n = size_of c.in_ok-shared.shared.shape in
-    (record (stand 3 1 0) { zeroed = n }, at_now 0 n c.claim-2.new.desk.view c.zero.new.desk.view (stand 3 1 0) third c.zero.ensures.cleared, refl, le_refl n)

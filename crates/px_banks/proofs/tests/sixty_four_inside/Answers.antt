@@ -1,4 +1,4 @@
-use Rattle.std.proofs.Common.{◌≡◌, ◌∙◌, List, ap, refl}
+use Rattle.std.proofs.Common.{◌∙◌, List, ap, refl}
 use lib.ListN.{get_elem?}
 use Rattle.px_rule.specs.declared.view.Stand.{Stand}
 use Rattle.px_rule.specs.declared.view.View.{View}
