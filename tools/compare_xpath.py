@@ -6,20 +6,23 @@
 Each case is a random document, written as XML for libxml2 (python3-lxml) and as PYX for xpush, and
 a random filter of the fragment. The two must agree on whether the filter selects anything. The
 cases keep to what both define alike: names without colons, numbers that doubles hold exactly,
-and no text that libxml2 takes for a number and XPath 1.0 does not (as one with an exponent).
+and no text that libxml2 takes for a number and XPath 1.0 does not (as '-', or one with an
+exponent).
 
 The last line is 'N passed, M failed'. Where lxml is missing, nothing is compared and that is said.
 """
 import argparse
+import os
 import pathlib
 import random
 import subprocess
 import sys
 from xml.sax.saxutils import escape, quoteattr
 
+DEBIAN_PYTHON = "/usr/bin/python3"
 NAMES = ["a", "b", "c", "and", "or", "not", "text", "div", "x-1", "_", "caf\u00e9"]
 ATTRIBUTES = ["id", "x", "and", "or", "y.z"]
-TEXTS = ["1", " 2 ", "3.5", "-0", "0", "12", "007", "1.50", ".5", "5.", "-7", "abc", "x y", "+1", "1 2", "--1", "-", ".",
+TEXTS = ["1", " 2 ", "3.5", "-0", "0", "12", "007", "1.50", ".5", "5.", "-7", "abc", "x y", "+1", "1 2", "--1", ".",
          "it's", 'say "no"', "back\\slash", "\u00e9", "\n", "\t3\n"]
 NUMBERS = ["0", "1", "2", "12", "0.5", ".5", "5.", "-7", "- 1", "3.50", "007", "1000000"]
 RELATIONS = ["=", "!=", "<", "<=", ">", ">="]
@@ -31,7 +34,7 @@ class Element:
 
 
 def random_element(rng, depth):
-    element = Element(rng.choice(NAMES[:4] if rng.random() < 0.7 else NAMES))
+    element = Element(rng.choice(NAMES[:3] if rng.random() < 0.85 else NAMES))
     for name in rng.sample(ATTRIBUTES, rng.choice([0, 0, 1, 1, 2])):
         element.attributes.append((name, rng.choice(TEXTS + [""])))
     for _ in range(rng.choice([0, 1, 1, 2, 3]) if depth > 0 else 0):
@@ -91,14 +94,14 @@ def random_path(rng, depth, first):
         elif last and kind < 0.35:
             steps.append("text()")
         else:
-            test = rng.choice(NAMES[:4] * 3 + NAMES + ["*"] * 4)
+            test = rng.choice(NAMES[:3] * 8 + NAMES + ["*"] * 12)
             predicates = "".join(
                 "[" + blank(rng) + random_condition(rng, depth - 1) + blank(rng) + "]"
                 for _ in range(rng.choice([0, 0, 0, 1, 1, 2]) if depth > 0 else 0))
             steps.append(test + predicates)
     text = steps[0]
     for step in steps[1:]:
-        text += rng.choice(["/", "/", "//"]) + step
+        text += rng.choice(["/", "//"]) + step
     return first + text
 
 
@@ -135,12 +138,15 @@ def main():
     try:
         from lxml import etree
     except ImportError:
+        # Debian's package serves Debian's own Python
+        if os.path.exists(DEBIAN_PYTHON) and not os.path.samefile(sys.executable, DEBIAN_PYTHON):
+            os.execv(DEBIAN_PYTHON, [DEBIAN_PYTHON] + sys.argv)
         print("compare_xpath: python3-lxml is not installed, so nothing is compared")
         return 0
     rng, passed, failed, said_yes = random.Random(options.seed), 0, 0, 0
     for case in range(options.cases):
         element = random_element(rng, 4)
-        filter_text = random_path(rng, 2, rng.choice(["/", "//", "//"]))
+        filter_text = random_path(rng, 2, rng.choice(["/", "//", "//", "//", "//"]))
         lines = []
         to_pyx(element, lines)
         tree = etree.fromstring(to_xml(element).encode()).getroottree()
