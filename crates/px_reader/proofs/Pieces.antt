@@ -1,5 +1,5 @@
 -- Bytes of which only a front is known, and what holds however they go on.
-use Rattle.std.proofs.Common.{◌≡◌, ℕ, ◌+◌, ◌-◌, ◌<◌, ◌≤◌, true, not, List, [], ◌∷◌, ◌++◌, length, take, ◌⊎◌, inl, inr, refl, ap, sym, ◌∙◌, subst, Some, append_assoc, length-append, arith}
+use Rattle.std.proofs.Common.{◌≡◌, ℕ, ◌+◌, ◌-◌, ◌<◌, ◌≤◌, true, List, [], ◌∷◌, ◌++◌, length, take, ◌⊎◌, inl, inr, refl, ap, sym, ◌∙◌, subst, Some, append_assoc, length-append, arith}
 use Rattle.std.specs.List.{sum_by}
 use Rattle.std.proofs.lemmas.Bool.{cases_lt}
 use Rattle.std.proofs.lemmas.List.{take_all}

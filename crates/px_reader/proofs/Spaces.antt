@@ -1,5 +1,5 @@
 -- What stands before the first space of a line and behind it.
-use Rattle.std.proofs.Common.{◌≡◌, ℕ, zero, suc, ◌<◌, ◌≤◌, Bool, true, false, List, [], ◌∷◌, ◌==◌, if◌then◌else◌, length, take, drop, get_or, refl, ap, arith}
+use Rattle.std.proofs.Common.{◌≡◌, ℕ, zero, suc, ◌<◌, ◌≤◌, Bool, true, false, List, [], ◌∷◌, ◌==◌, length, take, drop, get_or, refl, ap, arith}
 use Rattle.px_reader.specs.Lines.{until_space, behind_space}
 
 -- no byte before place k is a space

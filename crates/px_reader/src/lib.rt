@@ -9,12 +9,14 @@ mod doc;
 mod event;
 mod extent;
 mod fault;
+mod laws;
 mod machine;
 mod reader;
 
 pub use doc::Doc;
 pub use event::Event;
 pub use fault::{DocFault, DocKind, ReaderFault};
+pub use laws::{machine_is_right, verdicts_are_one};
 pub use reader::Reader;
 
 #[cfg(test)]

@@ -126,10 +126,7 @@ fn depths_lines_and_sizes(rt: HostRuntime) -> Result<(), Fail> {
     check(&rt, alloc, &longer, b"(a\n! line 2: LineLong")?;
     let line = repeated(alloc, &[(b"-", 1), (b"x", 999_998), (b"\n", 1)])?;
     let big = repeated(alloc, &[(b"(a\n", 1), (&line, 17)])?;
-    let whole = outcome(alloc, &big, 1 << 30)?;
-    assert_eq!(rt; whole.as_slice(), b"(a\n! line 18: TooBig".as_slice());
-    let pieces = outcome(alloc, &big, 4096)?;
-    assert_eq!(rt; pieces.as_slice(), whole.as_slice());
+    check(&rt, alloc, &big, b"(a\n! line 18: TooBig")?;
     Ok(())
 }
 

@@ -1,5 +1,5 @@
 -- The first space cuts the line.
-use Rattle.std.proofs.Common.{◌≡◌, ◌-◌, ◌+◌, [], drop, sym, arith, add-one}
+use Rattle.std.proofs.Common.{◌≡◌, ◌+◌, [], drop, sym, arith, add-one}
 use Rattle.std.proofs.lemmas.Grind.{common_steps}
 use Rattle.px_reader.specs.Lines.{behind_space}
 use Rattle.px_reader.proofs.Spaces.{split_found, split_none}

@@ -1,5 +1,5 @@
 -- The document is read to its end, or to its fault.
-use Rattle.std.proofs.Common.{List, ℕ, length, min}
+use Rattle.std.proofs.Common.{List, ℕ, length}
 use Rattle.std.proofs.lemmas.Result.{err_from_is_err_and, on_ok_weaker, IfErr-weaker}
 use Rattle.px_reader.specs.declared.event.Event.{Event}
 use Rattle.px_reader.specs.Reading.{HasRead, IsLastFault}

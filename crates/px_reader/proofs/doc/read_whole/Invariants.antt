@@ -1,5 +1,5 @@
 -- The pieces so far are read.
-use Rattle.std.proofs.Common.{ℕ, length}
+use Rattle.std.proofs.Common.{length}
 use Rattle.px_reader.proofs.Feeding.{HasBegun}
 use Rattle.px_reader.proofs.doc.read_whole.Given as goal
 

@@ -1,5 +1,5 @@
 -- The line that the kept bytes begin and the part ends is judged.
-use Rattle.std.proofs.Common.{◌≡◌, ◌++◌, ◌-◌, ◌∷◌, [], List, ℕ, ◌<◌, length, take, refl, sym, ap, ◌∙◌, subst, length-take, arith, vec_len}
+use Rattle.std.proofs.Common.{◌≡◌, ◌++◌, ◌∷◌, [], List, ℕ, ◌<◌, length, take, refl, sym, ap, ◌∙◌, subst, length-take, arith, vec_len}
 use Rattle.px_reader.specs.States.{state_of, Judging}
 use Rattle.px_reader.proofs.Feeding.{count_none}
 use Rattle.px_reader.proofs.Kept.{kept_judged, kept_more}

@@ -1,5 +1,5 @@
 -- The lines that have ended are read, and the rest of the piece is left.
-use Rattle.std.proofs.Common.{◌≡◌, ℕ, length}
+use Rattle.std.proofs.Common.{◌≡◌, length}
 use Rattle.px_reader.proofs.Feeding.{ReadsTo}
 use Rattle.px_reader.proofs.reader.Reader.take_piece.Given as goal
 
