@@ -17,7 +17,7 @@ struct Row {
     status: Status,
 }
 
-const ROWS: [Row; 29] = [
+const ROWS: [Row; 41] = [
     Row {
         words: &["match", "/a/b"],
         source: b"(a\n(b\n)b\n)a\n",
@@ -73,6 +73,18 @@ const ROWS: [Row; 29] = [
         status: Status::Refused,
     },
     Row {
+        words: &["match", "/r[text()=2]"],
+        source: b"(r\n-1\n?p\n-2\n)r\n",
+        text: b"yes\n",
+        status: Status::Done,
+    },
+    Row {
+        words: &["match", "//@a"],
+        source: b"(r\nAa 1\n)r\n",
+        text: b"yes\n",
+        status: Status::Done,
+    },
+    Row {
         words: &["match", "/r//@a"],
         source: b"(r\nAa 1\n)r\n",
         text: b"yes\n",
@@ -103,6 +115,18 @@ const ROWS: [Row; 29] = [
         status: Status::Refused,
     },
     Row {
+        words: &["match", "/r[@x=0]"],
+        source: b"(r\nAx -0\n)r\n",
+        text: b"yes\n",
+        status: Status::Done,
+    },
+    Row {
+        words: &["match", "/r[@x>999999999999999999]"],
+        source: b"(r\nAx 1000000000000000000000000000000000000000\n)r\n",
+        text: b"yes\n",
+        status: Status::Done,
+    },
+    Row {
         words: &["match", "/r[@x=1000000000000000000]"],
         source: b"",
         text: b"! filter number-long 6\n",
@@ -110,7 +134,25 @@ const ROWS: [Row; 29] = [
     },
     Row {
         words: &["match", "/r[(@a or @b) and not(@c)]"],
+        source: b"(r\nAb 1\n)r\n",
+        text: b"yes\n",
+        status: Status::Done,
+    },
+    Row {
+        words: &["match", "/r[(@a or @b) and not(@c)]"],
         source: b"(r\nAb 1\nAc 1\n)r\n",
+        text: b"no\n",
+        status: Status::Refused,
+    },
+    Row {
+        words: &["match", "/a[b='x']"],
+        source: b"(a\n(b\n-x\n)b\n)a\n",
+        text: b"yes\n",
+        status: Status::Done,
+    },
+    Row {
+        words: &["match", "/a[b='x']"],
+        source: b"(a\n(b\n-y\n)b\n)a\n",
         text: b"no\n",
         status: Status::Refused,
     },
@@ -125,6 +167,24 @@ const ROWS: [Row; 29] = [
         source: b"(a\n(b\n)b\n)a\n",
         text: b"yes\n",
         status: Status::Done,
+    },
+    Row {
+        words: &["match", "/a[b!=1]"],
+        source: b"(a\n(b\n)b\n)a\n",
+        text: b"yes\n",
+        status: Status::Done,
+    },
+    Row {
+        words: &["match", "/a[b='']"],
+        source: b"(a\n)a\n",
+        text: b"no\n",
+        status: Status::Refused,
+    },
+    Row {
+        words: &["match", "/a[b!=1]"],
+        source: b"(a\n)a\n",
+        text: b"no\n",
+        status: Status::Refused,
     },
     Row {
         words: &["match", "/a[text()=\"x\ty\"]"],
@@ -164,6 +224,12 @@ const ROWS: [Row; 29] = [
     },
     Row {
         words: &["match", "/a"],
+        source: b"(a\nAx 1\nAx 2\n)a\n",
+        text: b"! line 3 not-here\n",
+        status: Status::Refused,
+    },
+    Row {
+        words: &["match", "/a"],
         source: b"(a\n-\xff\n",
         text: b"! line 2 not-utf8\n",
         status: Status::Refused,
@@ -184,6 +250,12 @@ const ROWS: [Row; 29] = [
         words: &["show", "/a[ b[@k] = 'x' ]"],
         source: b"",
         text: b"/a[b[@k]=\"x\"]\n",
+        status: Status::Done,
+    },
+    Row {
+        words: &["show", "/and[or and not]"],
+        source: b"",
+        text: b"/and[or and not]\n",
         status: Status::Done,
     },
     Row {
@@ -235,6 +307,53 @@ fn words_in_no_form_are_usage(rt: HostRuntime) -> Result<(), Fail> {
         assert_eq!(rt; status, Status::Usage, "{form:?}");
         assert_eq!(rt; sink.held(), b"".as_slice());
     }
+    Ok(())
+}
+
+/// Each text as often as its number says.
+fn repeated(alloc: Global, parts: &[(&[u8], usize)]) -> Result<Bytes, AllocError> {
+    let mut document = Vec::new(alloc);
+    for (text, count) in parts {
+        for _ in 0..*count {
+            document.extend_from_slice(text)?;
+        }
+    }
+    Ok(Bytes::from_vec(document))
+}
+
+/// The text that `match` writes for a filter and a document.
+fn answer(alloc: Global, filter: &str, document: Bytes) -> Result<MemSink, AllocError> {
+    let words = strings(alloc, &["match", filter])?;
+    let mut sink = MemSink::new(alloc);
+    plain(
+        alloc,
+        words.as_slice(),
+        &mut MemSource::new(document),
+        &mut sink,
+    );
+    Ok(sink)
+}
+
+#[test]
+fn documents_at_their_limits(rt: HostRuntime) -> Result<(), Fail> {
+    let alloc = rt.alloc();
+    let deep = repeated(alloc, &[(b"(a\n", 512), (b")a\n", 512)])?;
+    assert_eq!(rt; answer(alloc, "//a", deep)?.held(), b"yes\n".as_slice());
+    let deeper = repeated(alloc, &[(b"(a\n", 513), (b")a\n", 513)])?;
+    assert_eq!(rt;
+        answer(alloc, "//a", deeper)?.held(),
+        b"! line 513 too-deep\n".as_slice()
+    );
+    let long = repeated(alloc, &[(b"(a\n-", 1), (b"x", 1_048_575), (b"\n)a\n", 1)])?;
+    assert_eq!(rt;
+        answer(alloc, "/a/text()", long)?.held(),
+        b"yes\n".as_slice()
+    );
+    let longer = repeated(alloc, &[(b"(a\n-", 1), (b"x", 1_048_576), (b"\n)a\n", 1)])?;
+    assert_eq!(rt;
+        answer(alloc, "/a/text()", longer)?.held(),
+        b"! line 2 line-long\n".as_slice()
+    );
     Ok(())
 }
 
