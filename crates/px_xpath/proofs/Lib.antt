@@ -9,6 +9,7 @@ pub mod Walks
 pub mod Stuck
 pub mod Phrases
 pub mod Onto
+pub mod Onward
 pub mod Shorter
 pub mod Reading
 pub mod Start

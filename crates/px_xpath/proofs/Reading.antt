@@ -1,12 +1,10 @@
 -- How what is read of the parts makes what is read of the whole.
 use Rattle.std.proofs.Common.{◌≡◌, ℕ, ◌+◌, ◌<◌, true, List, [], ◌∷◌, length, Some, Result, Ok, Err, refl, ap, sym, ◌∙◌, arith}
-use Rattle.std.proofs.lemmas.List.{length-map}
 use Rattle.px_xpath.specs.declared.filter.Axis.{Axis}
 use Rattle.px_xpath.specs.declared.filter.Axis.TheVariants.{Child, Below}
 use Rattle.px_xpath.specs.declared.filter.Test.{Test}
 use Rattle.px_xpath.specs.declared.filter.Step.{Step}
 use Rattle.px_xpath.specs.declared.filter.Cond.{Cond}
-use Rattle.px_xpath.specs.declared.token.Placed as token
 use Rattle.px_xpath.specs.declared.descent.Bracket.{Bracket}
 use Rattle.px_xpath.specs.declared.descent.Bracket.TheVariants as bracket
 use Rattle.px_xpath.specs.declared.descent.Stop.{Stop}
@@ -15,7 +13,6 @@ use Rattle.px_xpath.specs.Filters.{Way, Arrived, StepThen, Condition, Conditions
 use Rattle.px_xpath.specs.Views.{condition, conditions, ways}
 use Rattle.px_xpath.specs.Tokens as tokens
 use Rattle.px_xpath.specs.Tokens.{Token, Placed}
-use Rattle.px_xpath.specs.TokenViews.{placed, all_placed}
 use Rattle.px_xpath.specs.Faults.{words}
 use Rattle.px_xpath.specs.Grammar.{Stands, last_element, element, no_pred, pred, one_and, ors, last_or, more_ors, one_unary, ands, last_and, more_ands, Phrase, Steps, Preds, Or, Ors, And, Ands, Unary, Relative, separator, element_test}
 use Rattle.px_xpath.specs.Machine.{Around, Whole, Within, Group, Square, Round, State, BeforeStep, BehindElement, BehindLast, BeforeUnary, BehindUnary, step}
@@ -283,24 +280,24 @@ element_less found [] rest t = absurd t
 element_less found (p ∷ ts) rest (e, r) = rw r (omega arith)
 
 -- fewer tokens are left
-pub fewer_behind : (before middle behind : List token.Placed) (t : Token) (phrase : Phrase) →
-    Stands (words (all_placed before)) phrase (words (all_placed middle)) → Takes t (all_placed middle) (all_placed behind) → length behind < length before
+pub fewer_behind : (before middle behind : List Placed) (t : Token) (phrase : Phrase) →
+    Stands (words before) phrase (words middle) → Takes t middle behind → length behind < length before
 fewer_behind before middle behind t phrase s takes =
-    let a = shorter_placed (all_placed before) (all_placed middle) phrase s in
-    let b = one_less t (all_placed middle) (all_placed behind) takes in
-    omega (arith, length-map before placed, length-map middle placed, length-map behind placed)
+    let a = shorter_placed before middle phrase s in
+    let b = one_less t middle behind takes in
+    omega arith
 
-pub fewer_closed : (before inside behind : List token.Placed) (t u : Token) (phrase : Phrase) → Takes t (all_placed before) (all_placed inside) →
-    Stands (words (all_placed inside)) phrase (u ∷ words (all_placed behind)) → length behind < length before
+pub fewer_closed : (before inside behind : List Placed) (t u : Token) (phrase : Phrase) → Takes t before inside →
+    Stands (words inside) phrase (u ∷ words behind) → length behind < length before
 fewer_closed before inside behind t u phrase takes s =
-    let a = one_less t (all_placed before) (all_placed inside) takes in
-    let b = shorter_closed u (all_placed inside) (all_placed behind) phrase s in
-    omega (arith, length-map before placed, length-map inside placed, length-map behind placed)
+    let a = one_less t before inside takes in
+    let b = shorter_closed u inside behind phrase s in
+    omega arith
 
-pub fewer_elements : (before inside middle behind : List token.Placed) (t : Token) (found : Test) (phrase : Phrase) → TakesElement found (all_placed before) (all_placed inside) →
-    Stands (words (all_placed inside)) phrase (words (all_placed middle)) → Takes t (all_placed middle) (all_placed behind) → length behind < length before
+pub fewer_elements : (before inside middle behind : List Placed) (t : Token) (found : Test) (phrase : Phrase) → TakesElement found before inside →
+    Stands (words inside) phrase (words middle) → Takes t middle behind → length behind < length before
 fewer_elements before inside middle behind t found phrase e s takes =
-    let a = element_less found (all_placed before) (all_placed inside) e in
-    let b = shorter_placed (all_placed inside) (all_placed middle) phrase s in
-    let d = one_less t (all_placed middle) (all_placed behind) takes in
-    omega (arith, length-map before placed, length-map inside placed, length-map middle placed, length-map behind placed)
+    let a = element_less found before inside e in
+    let b = shorter_placed inside middle phrase s in
+    let d = one_less t middle behind takes in
+    omega arith

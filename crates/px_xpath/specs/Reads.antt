@@ -14,6 +14,10 @@ use Rattle.px_xpath.specs.declared.descent.Found.{Found}
 use Rattle.px_xpath.specs.declared.descent.Found.TheVariants as found
 use Rattle.px_xpath.specs.declared.descent.Head.{Head}
 use Rattle.px_xpath.specs.declared.descent.Head.TheVariants as head
+use Rattle.px_xpath.specs.declared.descent.Members.{Members}
+use Rattle.px_xpath.specs.declared.descent.Members.TheVariants as members
+use Rattle.px_xpath.specs.declared.descent.Route.{Route}
+use Rattle.px_xpath.specs.declared.descent.Route.TheVariants as route
 use Rattle.px_xpath.specs.Filters.{Way, Arrived, StepThen, Condition, EachOf, SomeOf, Fails, Conditions, NoConditions, CondThen}
 use Rattle.px_xpath.specs.Views.{condition, conditions, ways, way}
 use Rattle.px_xpath.specs.Tokens as tokens
@@ -170,6 +174,14 @@ ReadsOrs spare done ts (Ok read) =
     × LeadsPast spare ts (rest_of read.1) × ComesNot is_and (rest_of read.1) × ComesNot is_or (rest_of read.1)
 ReadsOrs spare done ts (Err stop) = StopsInside spare ts stop
 
+-- one more member of a list: whatever is read behind it is read of the whole; or the end
+abbrev pub GoesOn : (List Cond → List tokens.Placed → Result (List Cond × Rest) Stop → Type 0) → List Cond → List tokens.Placed → Result Members Stop → Type 0
+GoesOn Reads done ts (Ok (members.More all behind)) =
+    (length (rest_of behind) < length ts)
+    × ((result : Result (List Cond × Rest) Stop) → Reads all (rest_of behind) result → Reads done ts result)
+GoesOn Reads done ts (Ok (members.Whole all rest)) = Reads done ts (Ok (all, rest))
+GoesOn Reads done ts (Err stop) = Reads done ts (Err stop)
+
 -- what kind of bracket it is
 abbrev pub kind : Group → Bracket
 kind (Square around) = bracket.Square
@@ -198,6 +210,14 @@ ReadsSteps spare done axis ts (Ok read) =
     ((w : Way) × Stands (words ts) (Steps axis w) (words (rest_of read.1)) × (ways read.0 ≡ ways_onto done w))
     × ((around : Around) → height_around around + spare ≡ 64 → Leads (BeforeStep around) ts (BehindLast around) (rest_of read.1))
 ReadsSteps spare done axis ts (Err stop) = (around : Around) → height_around around + spare ≡ 64 → Stops (BeforeStep around) ts stop
+
+-- one more step of a path: whatever is read behind it is read of the whole; or the end
+abbrev pub StepsOn : ℕ → List Step → Axis → List tokens.Placed → Result Route Stop → Type 0
+StepsOn spare done axis ts (Ok (route.More all next behind)) =
+    (length (rest_of behind) < length ts)
+    × ((result : Result (List Step × Rest) Stop) → ReadsSteps spare all next (rest_of behind) result → ReadsSteps spare done axis ts result)
+StepsOn spare done axis ts (Ok (route.Whole all rest)) = ReadsSteps spare done axis ts (Ok (all, rest))
+StepsOn spare done axis ts (Err stop) = ReadsSteps spare done axis ts (Err stop)
 
 -- the whole filter
 abbrev pub ReadsFilter : List tokens.Placed → Result Path Stop → Type 0

@@ -2,10 +2,11 @@
 //!
 //! Each function takes the tokens that are left and gives what it read and the tokens behind it,
 //! or the token that stops the parse. `spare` is the number of brackets that may still be opened.
+//! Lists are read by loops, so the calls nest only as deep as brackets stand open.
 
 ghost use Rattle.std.specs.Prelude.{◌≡◌, [], ◌∷◌, List, IfOk};
 ghost use Rattle.px_xpath.specs.TokenViews.{all_placed};
-ghost use Rattle.px_xpath.specs.Reads.{TakesSeparator, TakesOr, TakesAnd, TakesCloser, OpensSquare, FindsAttribute, TakesCall, FindsTest, OpensRound, BeginsUnary, TakesRelation, NumberOf, ReadsNegative, ReadsOperand, Compares, ReadsUnary, ReadsAnds, ReadsOrs, ReadsClosed, ReadsPreds, ReadsSteps, ReadsFilter};
+ghost use Rattle.px_xpath.specs.Reads.{TakesSeparator, TakesOr, TakesAnd, TakesCloser, OpensSquare, FindsAttribute, TakesCall, FindsTest, OpensRound, BeginsUnary, TakesRelation, NumberOf, ReadsNegative, ReadsOperand, Compares, ReadsUnary, GoesOn, ReadsAnds, ReadsOrs, ReadsClosed, ReadsPreds, StepsOn, ReadsSteps, ReadsFilter};
 ghost use Rattle.px_xpath.specs.Grammar as grammar;
 ghost use Rattle.px_xpath.specs.Filters.{Way, StepThen, Conditions, CondThen};
 ghost use Rattle.px_xpath.specs.Views.{condition as view, conditions, way, ways};
@@ -64,6 +65,20 @@ pub enum Found<'a> {
 pub enum Head<'a> {
     Inside(bool, u32, &'a [Placed<'a>]),
     Along(Axis, &'a [Placed<'a>]),
+}
+
+/// What a list of conditions goes on with: behind one more member, or at its end.
+#[derive(Drop)]
+pub enum Members<'a> {
+    More(Items<Cond>, &'a [Placed<'a>]),
+    Whole(Items<Cond>, &'a [Placed<'a>]),
+}
+
+/// What a path goes on with: behind one more step, along this axis, or at its end.
+#[derive(Drop)]
+pub enum Route<'a> {
+    More(Items<Step>, Axis, &'a [Placed<'a>]),
+    Whole(Items<Step>, &'a [Placed<'a>]),
 }
 
 /// The separator that comes, as the axis that it stands for.
@@ -413,45 +428,81 @@ fn unary<'a>(
             Ok((negated_if(alloc, is_negated, found)?, rest))
         }
         Head::Along(axis, rest) => {
-            let (steps, rest) = steps(alloc, spare, Items::new(alloc), axis, rest)?;
+            let (steps, rest) = steps(alloc, spare, axis, rest)?;
             comparison(alloc, path_of(steps), rest)
         }
     }
 }
 
-/// The conditions between which `and` stands, behind those that are done.
+/// One more of the conditions between which `and` stands, behind those that are done.
 #[cycle(parser)]
-fn ands<'a>(
+fn and_member<'a>(
     alloc: Global,
     spare: u32,
     done: Items<Cond>,
     tokens: &'a [Placed<'a>],
-) -> Result<(Items<Cond>, &'a [Placed<'a>]), Stop<'a>>
-    ensures { ReadsAnds spare done (all_placed tokens.now) result }
+) -> Result<Members<'a>, Stop<'a>>
+    ensures { GoesOn (ReadsAnds spare) done (all_placed tokens.now) result }
 {
     let (found, rest) = unary(alloc, spare, tokens)?;
     let all = with_condition(done, found)?;
     match behind_and(rest) {
-        Some(behind) => ands(alloc, spare, all, behind),
-        None => Ok((all, rest)),
+        Some(behind) => Ok(Members::More(all, behind)),
+        None => Ok(Members::Whole(all, rest)),
     }
 }
 
-/// The conditions between which `or` stands, behind those that are done.
+/// The conditions between which `and` stands.
 #[cycle(parser)]
-fn ors<'a>(
+fn ands<'a>(
+    alloc: Global,
+    spare: u32,
+    tokens: &'a [Placed<'a>],
+) -> Result<(Items<Cond>, &'a [Placed<'a>]), Stop<'a>>
+    ensures { ReadsAnds spare [] (all_placed tokens.now) result }
+{
+    let mut read = and_member(alloc, spare, Items::new(alloc), tokens)?;
+    loop {
+        match read {
+            Members::More(done, behind) => read = and_member(alloc, spare, done, behind)?,
+            Members::Whole(done, rest) => return Ok((done, rest)),
+        }
+    }
+}
+
+/// One more of the conditions between which `or` stands, behind those that are done.
+#[cycle(parser)]
+fn or_member<'a>(
     alloc: Global,
     spare: u32,
     done: Items<Cond>,
     tokens: &'a [Placed<'a>],
-) -> Result<(Items<Cond>, &'a [Placed<'a>]), Stop<'a>>
-    ensures { ReadsOrs spare done (all_placed tokens.now) result }
+) -> Result<Members<'a>, Stop<'a>>
+    ensures { GoesOn (ReadsOrs spare) done (all_placed tokens.now) result }
 {
-    let (members, rest) = ands(alloc, spare, Items::new(alloc), tokens)?;
+    let (members, rest) = ands(alloc, spare, tokens)?;
     let all = with_condition(done, conjunction(members))?;
     match behind_or(rest) {
-        Some(behind) => ors(alloc, spare, all, behind),
-        None => Ok((all, rest)),
+        Some(behind) => Ok(Members::More(all, behind)),
+        None => Ok(Members::Whole(all, rest)),
+    }
+}
+
+/// The conditions between which `or` stands.
+#[cycle(parser)]
+fn ors<'a>(
+    alloc: Global,
+    spare: u32,
+    tokens: &'a [Placed<'a>],
+) -> Result<(Items<Cond>, &'a [Placed<'a>]), Stop<'a>>
+    ensures { ReadsOrs spare [] (all_placed tokens.now) result }
+{
+    let mut read = or_member(alloc, spare, Items::new(alloc), tokens)?;
+    loop {
+        match read {
+            Members::More(done, behind) => read = or_member(alloc, spare, done, behind)?,
+            Members::Whole(done, rest) => return Ok((done, rest)),
+        }
     }
 }
 
@@ -465,52 +516,92 @@ fn closed<'a>(
 ) -> Result<(Cond, &'a [Placed<'a>]), Stop<'a>>
     ensures { ReadsClosed bracket spare (all_placed tokens.now) result }
 {
-    let (members, rest) = ors(alloc, spare, Items::new(alloc), tokens)?;
+    let (members, rest) = ors(alloc, spare, tokens)?;
     match behind_closer(bracket, rest) {
         Some(behind) => Ok((disjunction(members), behind)),
         None => Err(Stop::At(Reason::NotAFilter, rest)),
     }
 }
 
-/// The conditions of a step, behind those that are done.
+/// One more condition of a step, behind those that are done.
 #[cycle(parser)]
-fn predicates<'a>(
+fn predicate<'a>(
     alloc: Global,
     spare: u32,
     done: Items<Cond>,
     tokens: &'a [Placed<'a>],
-) -> Result<(Items<Cond>, &'a [Placed<'a>]), Stop<'a>>
-    ensures { ReadsPreds spare done (all_placed tokens.now) result }
+) -> Result<Members<'a>, Stop<'a>>
+    ensures { GoesOn (ReadsPreds spare) done (all_placed tokens.now) result }
 {
     match open_square(spare, tokens)? {
         Some((left, inside)) => {
             let (found, rest) = closed(alloc, Bracket::Square, left, inside)?;
-            predicates(alloc, spare, with_condition(done, found)?, rest)
+            Ok(Members::More(with_condition(done, found)?, rest))
         }
-        None => Ok((done, tokens)),
+        None => Ok(Members::Whole(done, tokens)),
     }
 }
 
-/// The steps of a path, behind those that are done.
+/// The conditions of a step.
 #[cycle(parser)]
-fn steps<'a>(
+fn predicates<'a>(
+    alloc: Global,
+    spare: u32,
+    tokens: &'a [Placed<'a>],
+) -> Result<(Items<Cond>, &'a [Placed<'a>]), Stop<'a>>
+    ensures { ReadsPreds spare [] (all_placed tokens.now) result }
+{
+    let mut read = predicate(alloc, spare, Items::new(alloc), tokens)?;
+    loop {
+        match read {
+            Members::More(done, behind) => read = predicate(alloc, spare, done, behind)?,
+            Members::Whole(done, rest) => return Ok((done, rest)),
+        }
+    }
+}
+
+/// One more step of a path, behind those that are done.
+#[cycle(parser)]
+fn next_step<'a>(
     alloc: Global,
     spare: u32,
     done: Items<Step>,
     axis: Axis,
     tokens: &'a [Placed<'a>],
-) -> Result<(Items<Step>, &'a [Placed<'a>]), Stop<'a>>
-    ensures { ReadsSteps spare done axis (all_placed tokens.now) result }
+) -> Result<Route<'a>, Stop<'a>>
+    ensures { StepsOn spare done axis (all_placed tokens.now) result }
 {
     match test(alloc, tokens)? {
-        Found::Last(test, rest) => Ok((with_step(done, axis, test, Items::new(alloc))?, rest)),
+        Found::Last(test, rest) => {
+            let all = with_step(done, axis, test, Items::new(alloc))?;
+            Ok(Route::Whole(all, rest))
+        }
         Found::Element(test, inside) => {
-            let (conds, rest) = predicates(alloc, spare, Items::new(alloc), inside)?;
+            let (conds, rest) = predicates(alloc, spare, inside)?;
             let all = with_step(done, axis, test, conds)?;
             match separator(rest) {
-                Some((next, behind)) => steps(alloc, spare, all, next, behind),
-                None => Ok((all, rest)),
+                Some((next, behind)) => Ok(Route::More(all, next, behind)),
+                None => Ok(Route::Whole(all, rest)),
             }
+        }
+    }
+}
+
+/// The steps of a path, the first along this axis.
+#[cycle(parser)]
+fn steps<'a>(
+    alloc: Global,
+    spare: u32,
+    axis: Axis,
+    tokens: &'a [Placed<'a>],
+) -> Result<(Items<Step>, &'a [Placed<'a>]), Stop<'a>>
+    ensures { ReadsSteps spare [] axis (all_placed tokens.now) result }
+{
+    let mut read = next_step(alloc, spare, Items::new(alloc), axis, tokens)?;
+    loop {
+        match read {
+            Route::More(done, next, behind) => read = next_step(alloc, spare, done, next, behind)?,
+            Route::Whole(done, rest) => return Ok((done, rest)),
         }
     }
 }
@@ -521,7 +612,7 @@ pub fn filter_path<'a>(alloc: Global, tokens: &'a [Placed<'a>]) -> Result<Path, 
 {
     match separator(tokens) {
         Some((axis, behind)) => {
-            let (steps, rest) = steps(alloc, MOST_OPEN, Items::new(alloc), axis, behind)?;
+            let (steps, rest) = steps(alloc, MOST_OPEN, axis, behind)?;
             if rest.is_empty() {
                 Ok(path_of(steps))
             } else {

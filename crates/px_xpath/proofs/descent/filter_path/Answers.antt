@@ -19,7 +19,7 @@ returns-then-is_empty c =
     let rest = c.in_ok-steps-in-Some.rest.now in
     let read = c.in_ok-steps-in-Some.ensures in
     let none : length rest ≡ 0 = eqb-true (length rest) 0 (sym c.is_empty.ensures ∙ c.if-is_empty.true) in (
-      filter_writes c.in-Some.axis c.in_ok-steps-in-Some.steps (way c.path_of.result) ts behind rest c.in-Some.ensures (rw c.new.ensures at read.0) c.path_of.ensures none,
+      filter_writes c.in-Some.axis c.in_ok-steps-in-Some.steps (way c.path_of.result) ts behind rest c.in-Some.ensures read.0 c.path_of.ensures none,
       filter_leads c.in-Some.axis ts behind rest c.in-Some.ensures read.1 none,
     )
 
