@@ -1,0 +1,35 @@
+//! Looking for the word of a step.
+ghost use Rattle.std.specs.Prelude.{◌≡◌, ◌+◌, ◌<◌, ◌≤◌, true};
+ghost use Rattle.px_rule.specs.Table.{is_inside};
+ghost use Rattle.px_intern.specs.Kept.{Grew};
+ghost use Rattle.px_intern.specs.Answers.{StaysSound, Finds};
+
+use crate::answers::Find;
+use crate::paths::{place_in, turns};
+use px_rule::{Law, Op, Seat, Shared, step_word};
+
+/// Looks for a step in the bank that the seat is inside, and answers the number of its result, or that it is absent.
+pub fn find<L: Law>(shared: &Shared<L>, seat: &mut Seat<L>, op: Op, a: u32, b: u32) -> Find
+    requires table { seat.old.table ≡ shared.now }
+    requires inside { is_inside seat.old.view.stay.place ≡ true }
+    requires fields { (a < 1048576) × (b < 1048576) }
+    ensures table { seat.new.table ≡ seat.old.table }
+    ensures grew { Grew seat.old.view seat.new.view }
+    ensures sound { StaysSound L.right shared.now.shape seat.old.view seat.new.view }
+    ensures wrote_none { seat.new.view.touch.wrote ≡ seat.old.view.touch.wrote }
+    ensures touched { (seat.old.view.touch.touches < seat.new.view.touch.touches) × (seat.new.view.touch.touches ≤ seat.old.view.touch.touches + 64) }
+    ensures answer { Finds L.right shared.now.shape op a b seat.old.view seat.new.view result }
+{
+    let key = step_word(op, a, b, 0);
+    for turn in 0..turns(shared, key) {
+        let at = place_in(shared, key, turn);
+        let found = shared.look_step(seat, at);
+        if found == 0 {
+            return Find::Absent;
+        }
+        if found >> 20 == key >> 20 {
+            return Find::Found((found % (1 << 20)) as u32);
+        }
+    }
+    Find::Absent
+}
