@@ -224,16 +224,13 @@ module _ {E : Type 0} (right : List E → Op → Operand → Operand → List �
       same_result k n p x v word one s some_word (subst (λ (q : ℕ). nodes_of z ≤ q) (sym at) high) within (proper.as_step turn low high) key
 
   -- the word of a right step may be sought
-  pub proper_step : (k n word : ℕ) (v : View E) → IsShape z → AsStep right z k n v word → (is_node (key_of word) ≡ false) × Proper right z k n v word
+  pub proper_step : (k n word : ℕ) (v : View E) → IsShape z → AsStep right z k n v word → Proper right z k n v word
   proper_step k n word v shape y =
-      let is : is_node (key_of word) ≡ false = ap (λ (w : ℕ). is_node (key_of w)) y.10 ∙ step_no_node y.0 y.1 y.2 y.3 y.7 y.8 y.9 in (
-        is,
-        record {
-          some_word = λ none. step_some y.0 y.1 y.2 y.3 (sym y.10 ∙ none);
-          as_node = λ i l m. absurd (let p : ℕ = path_of z (key_of word) i in let q : ℕ = nodes_of z in let high : q ≤ p = (step_path z (key_of word) i shape is).0 in let low : p < q = m in omega arith);
-          as_step = λ i l m. y;
-        },
-      )
+      let is : is_node (key_of word) ≡ false = ap (λ (w : ℕ). is_node (key_of w)) y.10 ∙ step_no_node y.0 y.1 y.2 y.3 y.7 y.8 y.9 in record {
+        some_word = λ none. step_some y.0 y.1 y.2 y.3 (sym y.10 ∙ none);
+        as_node = λ i l m. absurd (let p : ℕ = path_of z (key_of word) i in let q : ℕ = nodes_of z in let high : q ≤ p = (step_path z (key_of word) i shape is).0 in let low : p < q = m in omega arith);
+        as_step = λ i l m. y;
+      }
 
   -- where the path of a key has a gap before any word of the key, the view keeps no word of the key
   pub absent : (k n word turn p : ℕ) (v : View E) → Shown right z k n p v 0 → p ≡ path_of z (key_of word) turn → PassedBy z k n word turn v → (q x : ℕ) → KeptAt k n q x v → key_of x ≡ key_of word → ⊥
@@ -284,3 +281,25 @@ whole kind a b x r sa sb h e = (omega arith, omega arith)
 -- a word with the upper bits of a step's key is that step's, with a result
 pub whole_step : (op : Op) (a b key x r : ℕ) → Small a → Small b → key ≡ step_word op a b 0 → x / 1048576 ≡ key / 1048576 → r ≡ x % 1048576 → Small r × (x ≡ step_word op a b r)
 whole_step op a b key x r sa sb is h e = whole (kind_of op) a b x r sa sb (h ∙ ap (λ (w : ℕ). w / 1048576) is) e
+
+by_bool : {A : Type 0} → (t : Bool) → (t ≡ true → A) → (t ≡ false → A) → A
+by_bool true f g = f refl
+by_bool false f g = g refl
+
+same_zeros : (x w : ℕ) → key_of x ≡ key_of w → x % 1048576 ≡ 0 → w % 1048576 ≡ 0 → x ≡ w
+same_zeros x w key a b = omega arith
+
+module _ {E : Type 0} (right : List E → Op → Operand → Operand → List ℕ → Type 0) (z : Shape) where
+  -- At a turn of the path, a word that was found has the word's key only where it is the word
+  pub found_same : (k n word turn p x : ℕ) (v : View E) → IsShape z → ((op : Op) (a b : Operand) (x y : List ℕ) → right (take n v.past.seen) op a b x → right (take n v.past.seen) op a b y → x ≡ y)
+      → turn < long_of z (key_of word) → p ≡ path_of z (key_of word) turn → p < size_of z → Proper right z k n v word → Shown right z k n p v x → x ≢ 0 → key_of x ≡ key_of word → x ≡ word
+  found_same k n word turn p x v shape one low at within is shown some_word key = by_bool (is_node (key_of word))
+      (λ node. same_zeros x word key (ends_in_zeros right z k n p x v (node_at right z word turn p shape at node).1 some_word shown) (own_zeros right z k n word turn v shape low is node))
+      (λ no_node. found_step right z k n word turn p x v shape one low at within no_node is shown some_word key)
+
+module _ {E : Type 0} where
+  pub kept_write : (k n p word x : ℕ) (v w : View E) → Written k n p word v x w → x ≡ 0 → KeptAt k n p word w
+  kept_write k n p word x v w e none = (0, ap (λ (u : View E). get_elem? u.touch.kept 0) e ∙ ap (λ (t : Bool). get_elem? (cond t (found k n p word ∷ v.touch.kept) (found k n p x ∷ v.touch.kept)) 0) (eq-eqb x 0 none))
+
+  pub kept_write_other : (k n p word x : ℕ) (v w : View E) → Written k n p word v x w → x ≢ 0 → KeptAt k n p x w
+  kept_write_other k n p word x v w e some_word = (0, ap (λ (u : View E). get_elem? u.touch.kept 0) e ∙ ap (λ (t : Bool). get_elem? (cond t (found k n p word ∷ v.touch.kept) (found k n p x ∷ v.touch.kept)) 0) (ne_eqb x 0 some_word))

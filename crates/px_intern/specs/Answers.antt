@@ -1,12 +1,19 @@
--- What looking for a step gives.
-use Rattle.std.specs.Prelude.{◌≡◌, ℕ, ◌⊎◌, List, true, take}
+-- What the calls on sets and steps give.
+use Rattle.std.specs.Prelude.{◌≡◌, ℕ, ◌<◌, ◌⊎◌, List, [], ◌∷◌, true, false, take}
 use Rattle.px_rule.specs.declared.op.Op.{Op}
 use Rattle.px_rule.specs.declared.shape.Shape.{Shape}
 use Rattle.px_rule.specs.declared.view.View.{View}
 use Rattle.px_rule.specs.Operands.{Operand, set_of, first_is_set, second_is_set}
-use Rattle.px_rule.specs.Words.{Small, step_word}
+use Rattle.px_rule.specs.Words.{Small, IsShape, node_word, step_word, key_of, is_node, nodes_of, long_of, path_of}
+use Rattle.px_rule.specs.RightBanks.{Above}
 use Rattle.px_rule.specs.Table.{bank_in, version_in}
-use Rattle.px_intern.specs.Kept.{KeptAt, KeyBlocked, Gapped, Tells, Sound}
+use Rattle.px_intern.specs.Kept.{Wrote, IsAt, KeptAt, PassedBy, KeyBlocked, Gapped, Tells, Sound, Proper, SetBlocked, SuffixWord}
+use Rattle.px_intern.specs.declared.answers.Sought.{Sought}
+use Rattle.px_intern.specs.declared.answers.Sought.TheVariants.{At, Blocked}
+use Rattle.px_intern.specs.declared.answers.Put.{Put}
+use Rattle.px_intern.specs.declared.answers.Put.TheVariants as put
+use Rattle.px_intern.specs.declared.answers.Intern.{Intern}
+use Rattle.px_intern.specs.declared.answers.Intern.TheVariants as intern
 use Rattle.px_intern.specs.declared.answers.Find.{Find}
 use Rattle.px_intern.specs.declared.answers.Find.TheVariants.{Found, Absent}
 
@@ -31,3 +38,61 @@ module _ {E : Type 0} (right : List E → Op → Operand → Operand → List �
 
   abbrev pub Finds : Op → ℕ → ℕ → View E → View E → Find → Type 0
   Finds op a b v w result = FindGives right z (bank_in v.stay.place) (version_in v.stay.place) op a b w result
+
+  -- the word may stand at any place of its path
+  abbrev pub IsProper : View E → ℕ → Type 0
+  IsProper v w = IsShape z → Proper right z (bank_in v.stay.place) (version_in v.stay.place) v w
+
+  -- the numbers are those of a step that is right, with its answer, by what the view keeps
+  pub record IsRightStep (v : View E) (op : Op) (a b r : ℕ) : Type 0 where
+    pub first : Operand
+    pub second : Operand
+    pub answer : List ℕ
+    pub first_is : Tells right z (bank_in v.stay.place) (version_in v.stay.place) v (first_is_set op) a first
+    pub second_is : Tells right z (bank_in v.stay.place) (version_in v.stay.place) v (second_is_set op) b second
+    pub answer_is : Tells right z (bank_in v.stay.place) (version_in v.stay.place) v true r (set_of answer)
+    pub is_right : right (take (version_in v.stay.place) v.past.seen) op first second answer
+
+  -- the number stands for the set
+  abbrev pub Names : View E → ℕ → List ℕ → Type 0
+  Names v s xs = Tells right z (bank_in v.stay.place) (version_in v.stay.place) v true s (set_of xs)
+
+  -- The number stands for the set. Or some node word of it has no place, since all places of its path hold other words
+  abbrev pub Interns : List ℕ → View E → Intern → Type 0
+  Interns xs w (intern.Number s) = (s < nodes_of z) × Names w s xs
+  Interns xs w (intern.Full x) = SetBlocked right z (bank_in w.stay.place) (version_in w.stay.place) w xs x
+
+  -- only node words of the set and of its rests were written
+  abbrev pub WroteNodes : List ℕ → View E → View E → Type 0
+  WroteNodes xs v w = Wrote (IsAt (bank_in v.stay.place) (version_in v.stay.place) (SuffixWord right z (bank_in v.stay.place) (version_in v.stay.place) w xs)) v w
+
+module _ {E : Type 0} where
+  -- only this word was written
+  abbrev pub WroteOnly : ℕ → View E → View E → Type 0
+  WroteOnly word v w = Wrote (IsAt (bank_in v.stay.place) (version_in v.stay.place) (λ x. x ≡ word)) v w
+
+module _ {E : Type 0} (z : Shape) where
+  -- the first places of the path are kept with words of other keys
+  abbrev pub IsPassed : ℕ → ℕ → View E → Type 0
+  IsPassed word turns v = PassedBy z (bank_in v.stay.place) (version_in v.stay.place) word turns v
+
+  -- x is kept at the place of the turn, and has the word's key only where it is the word
+  pub record TryGives (word turn : ℕ) (v w : View E) (p x : ℕ) : Type 0 where
+    pub place : p ≡ path_of z (key_of word) turn
+    pub kept : KeptAt (bank_in v.stay.place) (version_in v.stay.place) p x w
+    pub same : key_of x ≡ key_of word → x ≡ word
+    pub node : is_node (key_of word) ≡ true → (0 < p) × (p < nodes_of z)
+
+  abbrev pub SeekGives : ℕ → View E → View E → Sought → Type 0
+  SeekGives word v w (At p) = KeptAt (bank_in v.stay.place) (version_in v.stay.place) p word w × (is_node (key_of word) ≡ true → (0 < p) × (p < nodes_of z))
+  SeekGives word v w Blocked = KeyBlocked z (bank_in v.stay.place) (version_in v.stay.place) word w
+
+  -- The step word is kept, or all places of its path hold other keys
+  abbrev pub Puts : ℕ → View E → View E → Put → Type 0
+  Puts word v w put.Put = (p : ℕ) × KeptAt (bank_in v.stay.place) (version_in v.stay.place) p word w
+  Puts word v w (put.Full x) = (x ≡ word) × KeyBlocked z (bank_in v.stay.place) (version_in v.stay.place) word w
+
+-- the elements rise, and each is below 2^20
+abbrev pub Rising : List ℕ → Type 0
+Rising [] = Unit {0}
+Rising (e ∷ es) = Small e × Above e es × Rising es

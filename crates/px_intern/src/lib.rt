@@ -4,6 +4,7 @@
 mod answers;
 mod paths;
 mod steps;
+mod walk;
 
-pub use answers::Find;
-pub use steps::find;
+pub use answers::{Find, Intern, Put};
+pub use steps::{find, put};

@@ -9,6 +9,7 @@ pub(crate) fn place_in<L: Law>(shared: &Shared<L>, word: u64, turn: u32) -> u32
     requires turn { turn < long_of shared.now.shape (key_of word) }
     ensures place { result ≡ path_of shared.now.shape (key_of word) turn }
     ensures within { result < size_of shared.now.shape }
+    ensures shape { IsShape shared.now.shape }
 {
     place(&shared.shape(), word, turn)
 }

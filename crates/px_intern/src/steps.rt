@@ -1,11 +1,13 @@
-//! Looking for the word of a step.
+//! Looking for the word of a step, and putting it.
 ghost use Rattle.std.specs.Prelude.{◌≡◌, ◌+◌, ◌<◌, ◌≤◌, true};
+ghost use Rattle.px_rule.specs.Words.{step_word as word_of_step};
 ghost use Rattle.px_rule.specs.Table.{is_inside};
 ghost use Rattle.px_intern.specs.Kept.{Grew};
-ghost use Rattle.px_intern.specs.Answers.{StaysSound, Finds};
+ghost use Rattle.px_intern.specs.Answers.{StaysSound, Finds, IsRightStep, WroteOnly, Puts};
 
-use crate::answers::Find;
+use crate::answers::{Find, Put, Sought};
 use crate::paths::{place_in, turns};
+use crate::walk::seek;
 use px_rule::{Law, Op, Seat, Shared, step_word};
 
 /// Looks for a step in the bank that the seat is inside, and answers the number of its result, or that it is absent.
@@ -32,4 +34,24 @@ pub fn find<L: Law>(shared: &Shared<L>, seat: &mut Seat<L>, op: Op, a: u32, b: u
         }
     }
     Find::Absent
+}
+
+/// Puts a step with the number of its answer into the bank that the seat is inside. `Full` is answered where no place of its path is free.
+pub fn put<L: Law>(shared: &Shared<L>, seat: &mut Seat<L>, op: Op, a: u32, b: u32, r: u32) -> Put
+    requires table { seat.old.table ≡ shared.now }
+    requires inside { is_inside seat.old.view.stay.place ≡ true }
+    requires fields { (a < 1048576) × (b < 1048576) × (r < 1048576) }
+    requires step { IsRightStep L.right shared.now.shape seat.old.view op a b r }
+    ensures table { seat.new.table ≡ seat.old.table }
+    ensures grew { Grew seat.old.view seat.new.view }
+    ensures sound { StaysSound L.right shared.now.shape seat.old.view seat.new.view }
+    ensures wrote { WroteOnly (word_of_step op a b r) seat.old.view seat.new.view }
+    ensures touched { seat.new.view.touch.touches ≤ seat.old.view.touch.touches + 128 }
+    ensures answer { Puts shared.now.shape (word_of_step op a b r) seat.old.view seat.new.view result }
+{
+    let word = step_word(op, a, b, r);
+    match seek(shared, seat, word) {
+        Sought::At { .. } => Put::Put,
+        Sought::Blocked => Put::Full { word },
+    }
 }

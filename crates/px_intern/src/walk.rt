@@ -1,0 +1,54 @@
+//! Walking the path of a word, and writing it to the first empty place.
+ghost use Rattle.std.specs.Prelude.{◌≡◌, ◌+◌, ◌<◌, ◌≤◌, true};
+ghost use Rattle.px_rule.specs.Words.{key_of, long_of};
+ghost use Rattle.px_rule.specs.Table.{is_inside};
+ghost use Rattle.px_intern.specs.Kept.{Grew};
+ghost use Rattle.px_intern.specs.Answers.{StaysSound, IsProper, IsPassed, WroteOnly, TryGives, SeekGives};
+
+use crate::answers::Sought;
+use crate::paths::{place_in, turns};
+use px_rule::{Law, Seat, Shared};
+
+// Looks at the place at one turn of the path, writes the word there if it is empty, and answers what stands there.
+fn try_turn<L: Law>(shared: &Shared<L>, seat: &mut Seat<L>, word: u64, turn: u32) -> (u32, u64)
+    requires table { seat.old.table ≡ shared.now }
+    requires inside { is_inside seat.old.view.stay.place ≡ true }
+    requires turn { turn < long_of shared.now.shape (key_of word) }
+    requires word { IsProper L.right shared.now.shape seat.old.view word }
+    requires passed { IsPassed shared.now.shape word turn seat.old.view }
+    ensures table { seat.new.table ≡ seat.old.table }
+    ensures grew { Grew seat.old.view seat.new.view }
+    ensures sound { StaysSound L.right shared.now.shape seat.old.view seat.new.view }
+    ensures wrote { WroteOnly word seat.old.view seat.new.view }
+    ensures touched { seat.new.view.touch.touches ≤ seat.old.view.touch.touches + 2 }
+    ensures found { TryGives shared.now.shape word turn seat.old.view seat.new.view result.0 result.1 }
+{
+    let at = place_in(shared, word, turn);
+    let found = shared.look_step(seat, at);
+    if found != 0 {
+        return (at, found);
+    }
+    let found = shared.write_step(seat, at, word);
+    if found == 0 { (at, word) } else { (at, found) }
+}
+
+/// Walks the path of a word until a place has a word of its key, and writes it to the first empty place.
+pub(crate) fn seek<L: Law>(shared: &Shared<L>, seat: &mut Seat<L>, word: u64) -> Sought
+    requires table { seat.old.table ≡ shared.now }
+    requires inside { is_inside seat.old.view.stay.place ≡ true }
+    requires word { IsProper L.right shared.now.shape seat.old.view word }
+    ensures table { seat.new.table ≡ seat.old.table }
+    ensures grew { Grew seat.old.view seat.new.view }
+    ensures sound { StaysSound L.right shared.now.shape seat.old.view seat.new.view }
+    ensures wrote { WroteOnly word seat.old.view seat.new.view }
+    ensures touched { seat.new.view.touch.touches ≤ seat.old.view.touch.touches + 128 }
+    ensures answer { SeekGives shared.now.shape word seat.old.view seat.new.view result }
+{
+    for turn in 0..turns(shared, word) {
+        let (at, found) = try_turn(shared, seat, word, turn);
+        if found >> 20 == word >> 20 {
+            return Sought::At { place: at };
+        }
+    }
+    Sought::Blocked
+}
