@@ -19,6 +19,7 @@ use Rattle.px_rule.specs.Table.{is_inside, bank_in, version_in}
 use Rattle.px_rule.proofs.Known.{kind_within, same_step, means_one, stands_sound}
 use Rattle.px_rule.proofs.Paths.{nodes_wide, node_is_node, node_path, step_path}
 use Rattle.px_intern.specs.Kept.{Grew, KeptAt, AsNode, AsStep, Proper, PassedBy}
+use Rattle.px_intern.specs.Answers.{Rising}
 
 key_of_fields : (kind a b r : ℕ) → Small a → Small b → Small r → key_of (kind * 1152921504606846976 + a * 1099511627776 + b * 1048576 + r) ≡ kind * 1152921504606846976 + a * 1099511627776 + b * 1048576 + 0
 key_of_fields kind a b r sa sb sr = omega arith
@@ -303,3 +304,9 @@ module _ {E : Type 0} where
 
   pub kept_write_other : (k n p word x : ℕ) (v w : View E) → Written k n p word v x w → x ≢ 0 → KeptAt k n p x w
   kept_write_other k n p word x v w e some_word = (0, ap (λ (u : View E). get_elem? u.touch.kept 0) e ∙ ap (λ (t : Bool). get_elem? (cond t (found k n p word ∷ v.touch.kept) (found k n p x ∷ v.touch.kept)) 0) (ne_eqb x 0 some_word))
+
+-- an element of a rising list
+pub rising_at : (xs : List ℕ) (i d : ℕ) → Rising xs → i < length xs → Small (get_or xs i d) × Above (get_or xs i d) (drop (suc i) xs) × (drop i xs ≡ get_or xs i d ∷ drop (suc i) xs)
+rising_at [] i d r h = absurd (omega arith)
+rising_at (x ∷ xs) zero d r h = (r.0, r.1, refl)
+rising_at (x ∷ xs) (suc i) d r h = rising_at xs i d r.2 (omega arith)

@@ -59,7 +59,7 @@ module _ {E : Type 0} (right : List E → Op → Operand → Operand → List �
 
   -- The number stands for the set. Or some node word of it has no place, since all places of its path hold other words
   abbrev pub Interns : List ℕ → View E → Intern → Type 0
-  Interns xs w (intern.Number s) = (s < nodes_of z) × Names w s xs
+  Interns xs w (intern.Number s) = Small s × Names w s xs
   Interns xs w (intern.Full x) = SetBlocked right z (bank_in w.stay.place) (version_in w.stay.place) w xs x
 
   -- only node words of the set and of its rests were written

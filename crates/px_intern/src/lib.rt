@@ -3,8 +3,10 @@
 
 mod answers;
 mod paths;
+mod sets;
 mod steps;
 mod walk;
 
 pub use answers::{Find, Intern, Put};
+pub use sets::intern;
 pub use steps::{find, put};

@@ -1,6 +1,6 @@
 //! Walking the path of a word, and writing it to the first empty place.
 ghost use Rattle.std.specs.Prelude.{◌≡◌, ◌+◌, ◌<◌, ◌≤◌, true};
-ghost use Rattle.px_rule.specs.Words.{key_of, long_of};
+ghost use Rattle.px_rule.specs.Words.{key_of, IsShape, long_of};
 ghost use Rattle.px_rule.specs.Table.{is_inside};
 ghost use Rattle.px_intern.specs.Kept.{Grew};
 ghost use Rattle.px_intern.specs.Answers.{StaysSound, IsProper, IsPassed, WroteOnly, TryGives, SeekGives};
@@ -42,6 +42,7 @@ pub(crate) fn seek<L: Law>(shared: &Shared<L>, seat: &mut Seat<L>, word: u64) ->
     ensures sound { StaysSound L.right shared.now.shape seat.old.view seat.new.view }
     ensures wrote { WroteOnly word seat.old.view seat.new.view }
     ensures touched { seat.new.view.touch.touches ≤ seat.old.view.touch.touches + 128 }
+    ensures shape { IsShape shared.now.shape }
     ensures answer { SeekGives shared.now.shape word seat.old.view seat.new.view result }
 {
     for turn in 0..turns(shared, word) {
