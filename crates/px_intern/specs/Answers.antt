@@ -36,6 +36,9 @@ module _ {E : Type 0} (right : List E → Op → Operand → Operand → List �
   abbrev pub StaysSound : View E → View E → Type 0
   StaysSound v w = Sound right z (bank_in v.stay.place) (version_in v.stay.place) v → Sound right z (bank_in v.stay.place) (version_in v.stay.place) w
 
+  abbrev pub IsSound : View E → Type 0
+  IsSound v = Sound right z (bank_in v.stay.place) (version_in v.stay.place) v
+
   abbrev pub Finds : Op → ℕ → ℕ → View E → View E → Find → Type 0
   Finds op a b v w result = FindGives right z (bank_in v.stay.place) (version_in v.stay.place) op a b w result
 

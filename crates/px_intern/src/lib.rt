@@ -8,5 +8,5 @@ mod steps;
 mod walk;
 
 pub use answers::{Find, Intern, Put};
-pub use sets::intern;
+pub use sets::{intern, set_of};
 pub use steps::{find, put};

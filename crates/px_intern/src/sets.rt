@@ -1,12 +1,13 @@
-//! The number of a set.
-ghost use Rattle.std.specs.Prelude.{◌≡◌, ◌+◌, ◌*◌, ◌≤◌, true, length};
+//! The number of a set, and the set of a number.
+ghost use Rattle.std.specs.Prelude.{◌≡◌, ◌+◌, ◌*◌, ◌/◌, ◌%◌, ◌≤◌, ℕ, true, length, List, IfOk};
 ghost use Rattle.px_rule.specs.Table.{is_inside};
 ghost use Rattle.px_intern.specs.Kept.{Grew};
-ghost use Rattle.px_intern.specs.Answers.{Rising, StaysSound, WroteNodes, Interns};
+ghost use Rattle.px_intern.specs.Answers.{Rising, IsSound, Names, StaysSound, WroteNodes, Interns};
 
 use crate::answers::{Intern, Sought};
 use crate::walk::seek;
 use px_rule::{Law, Seat, Shared, node_word};
+use std::alloc::{AllocError, Global};
 
 /// The number of a set in the bank that the seat is inside. The set is given by its rising elements. `Full` is answered where no place is free for a node word of it.
 pub fn intern<L: Law>(shared: &Shared<L>, seat: &mut Seat<L>, set: &[u32]) -> Intern
@@ -32,4 +33,46 @@ pub fn intern<L: Law>(shared: &Shared<L>, seat: &mut Seat<L>, set: &[u32]) -> In
         }
     }
     Intern::Number(number)
+}
+
+/// The set that a number stands for, as its rising elements. The number is one that the seat was told. It fails only where memory is refused.
+pub fn set_of<L: Law>(
+    alloc: Global,
+    shared: &Shared<L>,
+    seat: &mut Seat<L>,
+    number: u32,
+) -> Result<Vec<u32>, AllocError>
+    requires table { seat.old.table ≡ shared.now }
+    requires inside { is_inside seat.old.view.stay.place ≡ true }
+    requires sound { IsSound L.right shared.now.shape seat.old.view }
+    requires told { (xs : List ℕ) × Names L.right shared.now.shape seat.old.view number xs }
+    ensures table { seat.new.table ≡ seat.old.table }
+    ensures grew { Grew seat.old.view seat.new.view }
+    ensures sound { StaysSound L.right shared.now.shape seat.old.view seat.new.view }
+    ensures wrote_none { seat.new.view.touch.wrote ≡ seat.old.view.touch.wrote }
+    ensures set { IfOk result (λ set. (xs : List ℕ) → Names L.right shared.now.shape seat.old.view number xs → set.items ≡ xs) }
+{
+    let mut elements = Vec::new(alloc);
+    let mut rest = number;
+    while rest != 0 {
+        let word = shared.look_step(seat, rest);
+        let element = element_of(word);
+        elements.push(element)?;
+        rest = tail_of(word);
+    }
+    Ok(elements)
+}
+
+// The element of a node word.
+fn element_of(word: u64) -> u32
+    ensures element { result ≡ word / 1099511627776 % 1048576 }
+{
+    ((word >> 40) % (1 << 20)) as u32
+}
+
+// The number of the tail of a node word.
+fn tail_of(word: u64) -> u32
+    ensures tail { result ≡ word / 1048576 % 1048576 }
+{
+    ((word >> 20) % (1 << 20)) as u32
 }
