@@ -6,7 +6,7 @@ ghost use Rattle.px_rule.specs.Banks.{stand};
 
 use crate::answers::{Claim, Enter};
 use crate::banks::{claim, enter, leave, publish, zero};
-use px_rule::{Law, Op, Seat, Shape, Shared};
+use px_rule::{Law, Seat, Shape, Shared};
 use std::process::Abort;
 use std::test::Fail;
 

@@ -5,21 +5,21 @@ use mathlib.Core.Logic.{dite}
 use mathlib.Core.Option.{some}
 use native.Mathlib.Decide.{dec_lt}
 use lib.ListN.{get_elem?}
-use Rattle.px_rule.specs.declared.op.Op.{Op}
+use Rattle.px_text.specs.declared.op.Op.{Op}
 use Rattle.px_rule.specs.declared.shape.Shape.{Shape}
 use Rattle.px_rule.specs.declared.view.View.{View}
 use Rattle.px_rule.specs.declared.view.Found.{Found}
 use Rattle.px_rule.specs.declared.view.Stay.{Stay}
 use Rattle.px_rule.specs.Operands.{kind_of, Operand, set_of, first_is_set, second_is_set}
 use Rattle.px_rule.specs.Words.{Small, node_word, step_word, key_of, is_node, IsShape, nodes_of, steps_of, size_of, path_of, long_of}
-use Rattle.px_rule.specs.RightBanks.{SetAt, Means, as_index, as_set, Above}
+use Rattle.px_rule.specs.RightBanks.{SetAt, Means, as_index, as_set}
+use Rattle.px_text.specs.Sets.{Above, Rising}
 use Rattle.px_rule.specs.Known.{found, Has, KeptSet, Stands, plain, named, answered, MayPut}
 use Rattle.px_rule.specs.Steps.{Looked, Written, Shown}
 use Rattle.px_rule.specs.Table.{is_inside, bank_in, version_in}
 use Rattle.px_rule.proofs.Known.{kind_within, same_step, means_one, stands_sound}
 use Rattle.px_rule.proofs.Paths.{nodes_wide, node_is_node, node_path, step_path}
 use Rattle.px_intern.specs.Kept.{Grew, KeptAt, AsNode, AsStep, Proper, PassedBy}
-use Rattle.px_intern.specs.Answers.{Rising}
 
 key_of_fields : (kind a b r : ℕ) → Small a → Small b → Small r → key_of (kind * 1152921504606846976 + a * 1099511627776 + b * 1048576 + r) ≡ kind * 1152921504606846976 + a * 1099511627776 + b * 1048576 + 0
 key_of_fields kind a b r sa sb sr = omega arith

@@ -1,11 +1,10 @@
 -- What the calls on sets and steps give.
 use Rattle.std.specs.Prelude.{◌≡◌, ℕ, ◌<◌, ◌⊎◌, List, [], ◌∷◌, true, false, take}
-use Rattle.px_rule.specs.declared.op.Op.{Op}
+use Rattle.px_text.specs.declared.op.Op.{Op}
 use Rattle.px_rule.specs.declared.shape.Shape.{Shape}
 use Rattle.px_rule.specs.declared.view.View.{View}
 use Rattle.px_rule.specs.Operands.{Operand, set_of, first_is_set, second_is_set}
 use Rattle.px_rule.specs.Words.{Small, IsShape, node_word, step_word, key_of, is_node, nodes_of, long_of, path_of}
-use Rattle.px_rule.specs.RightBanks.{Above}
 use Rattle.px_rule.specs.Table.{bank_in, version_in}
 use Rattle.px_intern.specs.Kept.{Wrote, IsAt, KeptAt, PassedBy, KeyBlocked, Gapped, Tells, Sound, Proper, SetBlocked, SuffixWord}
 use Rattle.px_intern.specs.declared.answers.Sought.{Sought}
@@ -94,8 +93,3 @@ module _ {E : Type 0} (z : Shape) where
   abbrev pub Puts : ℕ → View E → View E → Put → Type 0
   Puts word v w put.Put = (p : ℕ) × KeptAt (bank_in v.stay.place) (version_in v.stay.place) p word w
   Puts word v w (put.Full x) = (x ≡ word) × KeyBlocked z (bank_in v.stay.place) (version_in v.stay.place) word w
-
--- the elements rise, and each is below 2^20
-abbrev pub Rising : List ℕ → Type 0
-Rising [] = Unit {0}
-Rising (e ∷ es) = Small e × Above e es × Rising es

@@ -2,14 +2,15 @@
 use Rattle.std.specs.Prelude.{◌≡◌, ◌≢◌, ℕ, ◌+◌, ◌<◌, ◌≤◌, Bool, true, List, [], ◌∷◌, ◌++◌, take, All}
 use mathlib.Core.Option.{some}
 use lib.ListN.{get_elem?}
-use Rattle.px_rule.specs.declared.op.Op.{Op}
+use Rattle.px_text.specs.declared.op.Op.{Op}
 use Rattle.px_rule.specs.declared.shape.Shape.{Shape}
 use Rattle.px_rule.specs.declared.view.Found.{Found}
 use Rattle.px_rule.specs.declared.view.Gap.{Gap}
 use Rattle.px_rule.specs.declared.view.View.{View}
 use Rattle.px_rule.specs.Operands.{Operand, set_of, first_is_set, second_is_set}
 use Rattle.px_rule.specs.Words.{Small, node_word, step_word, key_of, nodes_of, steps_of, path_of, long_of}
-use Rattle.px_rule.specs.RightBanks.{Above, RightBank}
+use Rattle.px_text.specs.Sets.{Above}
+use Rattle.px_rule.specs.RightBanks.{RightBank}
 use Rattle.px_rule.specs.Known.{found, Agrees, Stands}
 
 -- the word was written in bank k at version n

@@ -8,7 +8,8 @@ ghost use Rattle.px_intern.specs.Answers.{StaysSound, Finds, IsRightStep, WroteO
 use crate::answers::{Find, Put, Sought};
 use crate::paths::{place_in, turns};
 use crate::walk::seek;
-use px_rule::{Law, Op, Seat, Shared, step_word};
+use px_rule::{Law, Seat, Shared, step_word};
+use px_text::Op;
 
 /// Looks for a step in the bank that the seat is inside, and answers the number of its result, or that it is absent.
 pub fn find<L: Law>(shared: &Shared<L>, seat: &mut Seat<L>, op: Op, a: u32, b: u32) -> Find

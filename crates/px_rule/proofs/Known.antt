@@ -2,8 +2,8 @@
 use Rattle.std.proofs.Common.{◌≡◌, ◌≢◌, ℕ, ◌+◌, ◌*◌, ◌<◌, Bool, cond, eqb, List, [], ◌∷◌, refl, sym, ap, ◌∙◌, subst, arith}
 use mathlib.Core.Logic.{dite}
 use native.Mathlib.Decide.{dec_lt}
-use Rattle.px_rule.specs.declared.op.Op.{Op}
-use Rattle.px_rule.specs.declared.op.Op.TheVariants.{TextClass, NumberClass, Pop, Add, Push, Mask}
+use Rattle.px_text.specs.declared.op.Op.{Op}
+use Rattle.px_text.specs.declared.op.Op.TheVariants.{TextClass, NumberClass, Pop, Add, Push, Mask}
 use Rattle.px_rule.specs.declared.view.Found.{Found}
 use Rattle.px_rule.specs.Operands.{kind_of, Operand, set_of, first_is_set, second_is_set}
 use Rattle.px_rule.specs.Words.{node_word, step_word, Small}

@@ -4,7 +4,7 @@ use Rattle.std.specs.Prelude.{slice_index, slice_set, Some}
 use Rattle.std.proofs.lemmas.List.{set-get_or, get_or-set_other}
 use Rattle.atomic_table.specs.Table.{State, Me, Act, Valid, stepped, Allows, carried_after, keeps}
 use Rattle.atomic_table.proofs.Lists.{set_again}
-use Rattle.px_rule.specs.declared.op.Op.{Op}
+use Rattle.px_text.specs.declared.op.Op.{Op}
 use Rattle.px_rule.specs.declared.view.Kind.TheVariants.{Desk}
 use Rattle.px_rule.specs.Operands.{Operand}
 use Rattle.px_rule.specs.Words.{nodes_of, steps_of, size_of, place_at, bank_word, place_word, path_of, long_of}

@@ -2,11 +2,11 @@
 use Rattle.std.specs.Prelude.{◌≡◌, ◌≢◌, ℕ, ◌+◌, ◌<◌, ◌≤◌, Bool, true, false, List, [], ◌∷◌}
 use mathlib.Core.Option.{some}
 use lib.ListN.{get_elem?}
-use Rattle.px_rule.specs.declared.op.Op.{Op}
+use Rattle.px_text.specs.declared.op.Op.{Op}
 use Rattle.px_rule.specs.declared.view.Found.{Found}
 use Rattle.px_rule.specs.Operands.{Operand, index, set_of, first_is_set, second_is_set}
 use Rattle.px_rule.specs.Words.{Small, node_word, step_word, key_of}
-use Rattle.px_rule.specs.RightBanks.{Above}
+use Rattle.px_text.specs.Sets.{Above}
 
 abbrev pub found : ℕ → ℕ → ℕ → ℕ → Found
 found k n p w = record { bank = k; version = n; place = p; word = w }

@@ -1,7 +1,7 @@
 -- What a step is computed from.
 use Rattle.std.specs.Prelude.{ℕ, List, Bool, true, false}
-use Rattle.px_rule.specs.declared.op.Op.{Op}
-use Rattle.px_rule.specs.declared.op.Op.TheVariants.{TextClass, NumberClass, Pop, Add, Push, Mask}
+use Rattle.px_text.specs.declared.op.Op.{Op}
+use Rattle.px_text.specs.declared.op.Op.TheVariants.{TextClass, NumberClass, Pop, Add, Push, Mask}
 
 -- a class or a label, or a set, which is a rising list of its elements
 pub data Operand : Type 0 where

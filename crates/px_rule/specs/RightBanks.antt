@@ -1,13 +1,9 @@
 -- The sets that numbers name in a bank, and when the words of a bank are right.
 use Rattle.std.specs.Prelude.{◌≡◌, ◌≢◌, ℕ, ◌+◌, ◌<◌, ◌≤◌, Bool, true, false, List, [], ◌∷◌}
-use Rattle.px_rule.specs.declared.op.Op.{Op}
+use Rattle.px_text.specs.declared.op.Op.{Op}
+use Rattle.px_text.specs.Sets.{Above}
 use Rattle.px_rule.specs.Operands.{Operand, index, set_of, first_is_set, second_is_set}
 use Rattle.px_rule.specs.Words.{Small, node_word, step_word, key_of}
-
--- the element is below all of the set
-abbrev pub Above : ℕ → List ℕ → Type 0
-Above e [] = Unit {0}
-Above e (x ∷ xs) = e < x
 
 -- `nodes` is the number of node places, and `mem` gives the word at each place.
 module _ (nodes : ℕ) (mem : ℕ → ℕ) where

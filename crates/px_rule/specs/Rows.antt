@@ -1,6 +1,6 @@
 -- A few words and places, worked out.
 use Rattle.std.specs.Prelude.{◌≡◌, refl}
-use Rattle.px_rule.specs.declared.op.Op.TheVariants.{Pop}
+use Rattle.px_text.specs.declared.op.Op.TheVariants.{Pop}
 use Rattle.px_rule.specs.declared.shape.Shape.{Shape}
 use Rattle.px_rule.specs.Words.{packed, node_word, step_word, key_of, start_of, path_of, long_of}
 

@@ -1,6 +1,6 @@
 -- Words of banks, words of facts, where they stand, and the paths on which a fact is looked for.
 use Rattle.std.specs.Prelude.{ℕ, suc, ◌+◌, ◌-◌, ◌*◌, ◌/◌, ◌%◌, ◌^◌, ◌<◌, ◌≤◌, Bool, cond, eqb, leb, ◌&&◌, min, List, slice_index}
-use Rattle.px_rule.specs.declared.op.Op.{Op}
+use Rattle.px_text.specs.declared.op.Op.{Op}
 use Rattle.px_rule.specs.declared.shape.Shape.{Shape}
 use Rattle.px_rule.specs.Operands.{kind_of}
 

@@ -66,7 +66,6 @@
 #![tactic(auto)]
 
 mod law;
-mod op;
 mod plays;
 mod rule;
 mod shape;
@@ -78,7 +77,6 @@ mod view;
 mod words;
 
 pub use law::Law;
-pub use op::Op;
 pub use rule::PushRule;
 pub use shape::Shape;
 pub use shared::{Seat, Shared};

@@ -67,10 +67,10 @@ pub(crate) fn write_single<L: Law>(shared: &Shared<L>, seat: &mut Seat<L>, eleme
 mod tests {
     use super::{accept_two, show, write_single};
     use crate::law::Law;
-    use crate::op::Op;
     use crate::shape::Shape;
     use crate::shared::{Seat, Shared};
     use crate::words::{node_word, path_length, place, step_word};
+    use px_text::Op;
     use std::alloc::{AllocError, Global};
     use std::test::Fail;
 
@@ -87,7 +87,7 @@ mod tests {
         type Entry = Vote;
 
         ghost use Rattle.std.specs.Prelude.{ℕ, List, length, ◌<◌};
-        ghost use Rattle.px_rule.specs.declared.op.Op.{Op};
+        ghost use Rattle.px_text.specs.declared.op.Op.{Op};
         ghost use Rattle.px_rule.specs.Operands.{Operand};
         ghost use Rattle.std.proofs.Common.{arith};
 

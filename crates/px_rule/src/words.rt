@@ -3,8 +3,8 @@ ghost use Rattle.std.specs.Prelude.{◌≡◌, ◌<◌, ◌≤◌};
 ghost use Rattle.px_rule.specs.Operands.{kind_of};
 ghost use Rattle.px_rule.specs.Words.{node_word as word_of_node, step_word as word_of_step, key_of, IsShape, size_of, path_of, long_of, shows};
 
-use crate::op::Op;
 use crate::shape::Shape;
+use px_text::Op;
 use std::cmp::min;
 
 /// The word of a node: the set of an element and of the set that the number of its tail names.

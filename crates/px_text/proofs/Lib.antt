@@ -1,3 +1,4 @@
+pub mod RisingLists
 pub mod Comparing
 pub mod Digits
 pub mod NameParts

@@ -5,4 +5,5 @@ pub mod Printing
 pub mod Readings
 pub mod Scans
 pub mod Nodes
+pub mod Sets
 pub mod Rows

@@ -202,6 +202,31 @@ impl Eq for Words {
     ghost laws = { nat_list_eq_equiv };
 }
 
+/// Lists of words are ordered by the first word at which they differ, shorter first where one begins the other.
+impl PartialOrd for Words {
+    ghost partial_cmp = { λ x y. Some (slice_cmp nat_cmp x y) };
+
+    ghost laws = { texts_po };
+
+    fn partial_cmp(&self, other: &Words) -> Option<Ordering> {
+        Some(self.cmp(other))
+    }
+}
+
+impl Ord for Words {
+    ghost cmp = { slice_cmp nat_cmp };
+
+    ghost total = { nat_list_cmp_total };
+
+    ghost matches_partial_cmp = { λ x y. refl };
+
+    ghost matches_eq = { texts_ties };
+
+    fn cmp(&self, other: &Words) -> Ordering {
+        self.items.cmp(&other.items)
+    }
+}
+
 #[cfg(test)]
 mod tests {
     use super::*;

@@ -1,7 +1,7 @@
 use Rattle.std.specs.Prelude.{slice_index_or, take}
 use Rattle.std.proofs.Common.{rules, ◌≡◌, ◌<◌, ◌≤◌, ◌+◌, ◌*◌, ◌-◌, ℕ, suc, List, ◌∷◌, ◌++◌, drop, length, true, arith, refl, sym, ap, ◌∙◌, subst, le_refl, take-append-drop}
 use Rattle.std.proofs.lemmas.List.{drop_all}
-use Rattle.px_rule.specs.declared.op.Op.{Op}
+use Rattle.px_text.specs.declared.op.Op.{Op}
 use Rattle.px_rule.specs.declared.shape.Shape.{Shape}
 use Rattle.px_rule.specs.declared.view.Found.{Found}
 use Rattle.px_rule.specs.declared.view.Stay.{Stay}
@@ -9,11 +9,10 @@ use Rattle.px_rule.specs.declared.view.View.{View}
 use Rattle.px_rule.specs.Operands.{Operand, set_of}
 use Rattle.px_rule.specs.Words.{Small, IsShape, node_word, key_of, is_node, nodes_of}
 use Rattle.px_rule.specs.Table.{bank_in, version_in}
-use Rattle.px_rule.specs.RightBanks.{Above}
+use Rattle.px_text.specs.Sets.{Above, Rising}
 use Rattle.px_rule.specs.Known.{KeptSet, named}
 use Rattle.px_rule.proofs.Paths.{nodes_wide, node_is_node}
 use Rattle.px_intern.specs.Kept.{Grew, Wrote, KeptAt, IsAt, Proper, Sound, SuffixWord, SetBlocked, KeyBlocked, Tells}
-use Rattle.px_intern.specs.Answers.{Rising}
 use Rattle.px_intern.proofs.Growing.{grew_same, stands_grew, rising_at, proper_node, names_grew, grew_trans, inside_at}
 use Rattle.px_intern.proofs.Sounds.{wrote_on, wrote_none}
 use Rattle.px_intern.proofs.sets.intern.Goals as goal
