@@ -16,3 +16,4 @@ pub mod Parses
 pub mod Proper
 pub mod Whole
 pub mod Values
+pub mod Subscribed

@@ -15,7 +15,7 @@ pub enum Axis {
 }
 
 /// Which places a step stands for.
-#[derive(Drop, PartialEq, Eq, PartialOrd, Ord)]
+#[derive(Clone, Drop, PartialEq, Eq, PartialOrd, Ord)]
 pub enum Test {
     Element(Bytes),
     AnyElement,
@@ -36,7 +36,7 @@ pub enum Relation {
 }
 
 /// What a string-value is compared with.
-#[derive(Drop, PartialEq, Eq, PartialOrd, Ord)]
+#[derive(Clone, Drop, PartialEq, Eq, PartialOrd, Ord)]
 pub enum Value {
     Number(Decimal),
     Literal(Bytes),

@@ -5,10 +5,12 @@
 //! text that is no filter, and what a filter means at a tree.
 #![tactic(auto)]
 
+mod copies;
 mod descent;
 mod fault;
 mod filter;
 mod laws;
+mod numbered;
 mod order;
 mod parser;
 mod printer;
@@ -20,6 +22,7 @@ mod tokenizer;
 pub use fault::{FilterFault, ParseFault};
 pub use filter::{Axis, Cond, Filter, Path, Relation, Step, Test, Value};
 pub use laws::{machine_is_right, writes_at_most_one};
+pub use numbered::Numbered;
 pub use order::equal_is_same;
 pub use parser::parse;
 pub use printer::print;
