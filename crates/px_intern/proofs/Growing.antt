@@ -10,7 +10,8 @@ use Rattle.px_rule.specs.declared.shape.Shape.{Shape}
 use Rattle.px_rule.specs.declared.view.View.{View}
 use Rattle.px_rule.specs.declared.view.Found.{Found}
 use Rattle.px_rule.specs.declared.view.Stay.{Stay}
-use Rattle.px_rule.specs.Operands.{kind_of, Operand, set_of, first_is_set, second_is_set}
+use Rattle.px_text.specs.Operands.{Operand, set_of, first_is_set, second_is_set}
+use Rattle.px_rule.specs.Kinds.{kind_of}
 use Rattle.px_rule.specs.Words.{Small, node_word, step_word, key_of, is_node, IsShape, nodes_of, steps_of, size_of, path_of, long_of}
 use Rattle.px_rule.specs.RightBanks.{SetAt, Means, as_index, as_set}
 use Rattle.px_text.specs.Sets.{Above, Rising}

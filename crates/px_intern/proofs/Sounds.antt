@@ -10,7 +10,7 @@ use Rattle.px_text.specs.declared.op.Op.{Op}
 use Rattle.px_rule.specs.declared.shape.Shape.{Shape}
 use Rattle.px_rule.specs.declared.view.View.{View}
 use Rattle.px_rule.specs.declared.view.Found.{Found}
-use Rattle.px_rule.specs.Operands.{Operand, set_of, first_is_set, second_is_set}
+use Rattle.px_text.specs.Operands.{Operand, set_of, first_is_set, second_is_set}
 use Rattle.px_rule.specs.Words.{key_of, nodes_of, steps_of, path_of, long_of}
 use Rattle.px_rule.specs.RightBanks.{RightBank}
 use Rattle.px_rule.specs.Known.{found, Has, MayPut}

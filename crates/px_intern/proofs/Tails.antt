@@ -3,7 +3,7 @@ use Rattle.std.proofs.Common.{◌≡◌, ◌≢◌, ℕ, ◌+◌, ◌-◌, ◌*�
 use Rattle.px_text.specs.declared.op.Op.{Op}
 use Rattle.px_rule.specs.declared.shape.Shape.{Shape}
 use Rattle.px_rule.specs.declared.view.View.{View}
-use Rattle.px_rule.specs.Operands.{Operand, set_of}
+use Rattle.px_text.specs.Operands.{Operand, set_of}
 use Rattle.px_rule.specs.Words.{Small, node_word, nodes_of, steps_of, path_of, long_of}
 use Rattle.px_rule.specs.RightBanks.{SetAt, RightBank}
 use Rattle.px_rule.specs.Known.{Agrees}

@@ -3,7 +3,7 @@ use Rattle.std.specs.Prelude.{◌≡◌, ℕ, ◌<◌, ◌⊎◌, List, [], ◌�
 use Rattle.px_text.specs.declared.op.Op.{Op}
 use Rattle.px_rule.specs.declared.shape.Shape.{Shape}
 use Rattle.px_rule.specs.declared.view.View.{View}
-use Rattle.px_rule.specs.Operands.{Operand, set_of, first_is_set, second_is_set}
+use Rattle.px_text.specs.Operands.{Operand, set_of, first_is_set, second_is_set}
 use Rattle.px_rule.specs.Words.{Small, IsShape, node_word, step_word, key_of, is_node, nodes_of, long_of, path_of}
 use Rattle.px_rule.specs.Table.{bank_in, version_in}
 use Rattle.px_intern.specs.Kept.{Wrote, IsAt, KeptAt, PassedBy, KeyBlocked, Gapped, Tells, Sound, Proper, SetBlocked, SuffixWord}

@@ -8,7 +8,7 @@ use Rattle.atomic_table.specs.Table.{State, Me}
 use Rattle.atomic_table.proofs.Lists.{set_again, at_map}
 use Rattle.px_text.specs.declared.op.Op.{Op}
 use Rattle.px_rule.specs.declared.view.Past.{Past}
-use Rattle.px_rule.specs.Operands.{Operand}
+use Rattle.px_text.specs.Operands.{Operand}
 use Rattle.px_rule.specs.Words.{nodes_of, steps_of, size_of, bank_at, place_at, bank_word, place_word, path_of, long_of}
 use Rattle.px_rule.specs.RightBanks.{RightBank}
 use Rattle.px_rule.specs.Histories.{Histories}

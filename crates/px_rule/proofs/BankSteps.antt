@@ -10,7 +10,7 @@ use Rattle.px_text.specs.declared.op.Op.{Op}
 use Rattle.px_rule.specs.declared.view.Kind.{Kind}
 use Rattle.px_rule.specs.declared.view.Kind.TheVariants.{Desk, Pass, DeskNote, PassNote, Spent}
 use Rattle.px_rule.specs.declared.view.Place.{Place}
-use Rattle.px_rule.specs.Operands.{Operand}
+use Rattle.px_text.specs.Operands.{Operand}
 use Rattle.px_rule.specs.Words.{nodes_of, steps_of, packed, mask, size_of, bank_at, place_at, bank_word, place_word, path_of, long_of}
 use Rattle.px_rule.specs.Banks.{one_if, in_bank, Reached, Banks, stand}
 use Rattle.px_rule.specs.Places.{Places}

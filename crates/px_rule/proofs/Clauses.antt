@@ -12,7 +12,7 @@ use Rattle.px_rule.specs.declared.view.Kind.TheVariants.{Desk}
 use Rattle.px_rule.specs.declared.view.Found.{Found}
 use Rattle.px_rule.specs.declared.view.Stand.{Stand}
 use Rattle.px_rule.specs.declared.view.View.{View}
-use Rattle.px_rule.specs.Operands.{Operand}
+use Rattle.px_text.specs.Operands.{Operand}
 use Rattle.px_rule.specs.Words.{nodes_of, steps_of, path_of, long_of, place_word}
 use Rattle.px_rule.specs.RightBanks.{RightBank}
 use Rattle.px_rule.specs.Histories.{Begins, named}

@@ -5,7 +5,8 @@ use native.Mathlib.Decide.{dec_lt}
 use Rattle.px_text.specs.declared.op.Op.{Op}
 use Rattle.px_text.specs.declared.op.Op.TheVariants.{TextClass, NumberClass, Pop, Add, Push, Mask}
 use Rattle.px_rule.specs.declared.view.Found.{Found}
-use Rattle.px_rule.specs.Operands.{kind_of, Operand, set_of, first_is_set, second_is_set}
+use Rattle.px_text.specs.Operands.{Operand, set_of, first_is_set, second_is_set}
+use Rattle.px_rule.specs.Kinds.{kind_of}
 use Rattle.px_rule.specs.Words.{node_word, step_word, Small}
 use Rattle.px_rule.specs.RightBanks.{SetAt, Means, as_index, as_set, RightBank}
 use Rattle.px_rule.specs.Known.{Agrees, named, KeptSet, Stands, plain, answered}

@@ -6,7 +6,7 @@ use Rattle.atomic_table.specs.Table.{State, Me, Act, Valid, stepped, Allows, car
 use Rattle.atomic_table.proofs.Lists.{set_again}
 use Rattle.px_text.specs.declared.op.Op.{Op}
 use Rattle.px_rule.specs.declared.view.Kind.TheVariants.{Desk}
-use Rattle.px_rule.specs.Operands.{Operand}
+use Rattle.px_text.specs.Operands.{Operand}
 use Rattle.px_rule.specs.Words.{nodes_of, steps_of, size_of, place_at, bank_word, place_word, path_of, long_of}
 use Rattle.px_rule.specs.Histories.{Histories}
 use Rattle.px_rule.specs.Banks.{Banks}

@@ -5,7 +5,7 @@ use Rattle.std.proofs.lemmas.List.{set-get_or}
 use prog.Atomic.{either}
 use Rattle.atomic_table.specs.Table.{State, Me, Act, Valid, stepped, Allows, carried_after, keeps}
 use Rattle.px_text.specs.declared.op.Op.{Op}
-use Rattle.px_rule.specs.Operands.{Operand}
+use Rattle.px_text.specs.Operands.{Operand}
 use Rattle.px_rule.specs.Words.{nodes_of, steps_of, size_of, place_at, place_word, path_of, long_of}
 use Rattle.px_rule.specs.Known.{MayPut}
 use Rattle.px_rule.specs.Places.{Places}

@@ -7,7 +7,7 @@ use mathlib.Core.Option.{some, some-ne-none, some-injective}
 use lib.ListN.{get_elem?}
 use Rattle.atomic_table.specs.Table.{opening}
 use Rattle.px_text.specs.declared.op.Op.{Op}
-use Rattle.px_rule.specs.Operands.{Operand}
+use Rattle.px_text.specs.Operands.{Operand}
 use Rattle.px_rule.specs.Words.{words_of, nodes_of, steps_of, packed, size_of, place_word, place_at, path_of, long_of}
 use Rattle.px_rule.specs.Histories.{Begins, Fits}
 use Rattle.px_rule.specs.Banks.{Reached, IsBusy, StayFits, stand}

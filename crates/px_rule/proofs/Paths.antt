@@ -5,7 +5,7 @@ use Rattle.std.proofs.Math.Pow.{pow_mono}
 use Rattle.px_text.specs.declared.op.Op.{Op}
 use Rattle.px_rule.specs.declared.shape.Shape.{Shape}
 use Rattle.px_rule.specs.declared.view.View.{View}
-use Rattle.px_rule.specs.Operands.{Operand}
+use Rattle.px_text.specs.Operands.{Operand}
 use Rattle.px_rule.specs.Words.{Small, node_word, key_of, is_node, IsShape, nodes_of, steps_of, size_of, start_of, path_of, long_of}
 use Rattle.px_rule.specs.Known.{named}
 use Rattle.px_rule.specs.Steps.{MayWrite}

@@ -13,7 +13,7 @@ use Rattle.px_text.specs.declared.op.Op.{Op}
 use Rattle.px_rule.specs.declared.view.Stand.{Stand}
 use Rattle.px_rule.specs.declared.view.Found.{Found}
 use Rattle.px_rule.specs.declared.view.Touch.{Touch}
-use Rattle.px_rule.specs.Operands.{Operand, set_of}
+use Rattle.px_text.specs.Operands.{Operand, set_of}
 use Rattle.px_rule.specs.Words.{key_of}
 use Rattle.px_rule.specs.RightBanks.{SetAt, Means, as_set, IsStep, OnPath, RightBank}
 use Rattle.px_rule.specs.Known.{Agrees, found, MayPut}

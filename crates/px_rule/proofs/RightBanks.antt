@@ -3,7 +3,7 @@ use Rattle.std.proofs.Common.{◌≡◌, ◌≢◌, ℕ, ◌+◌, ◌<◌, ◌�
 use mathlib.Core.Logic.{dite}
 use native.Mathlib.Decide.{ℕ_discrete, dec_lt}
 use Rattle.px_text.specs.declared.op.Op.{Op}
-use Rattle.px_rule.specs.Operands.{Operand, first_is_set, second_is_set}
+use Rattle.px_text.specs.Operands.{Operand, first_is_set, second_is_set}
 use Rattle.px_rule.specs.Words.{node_word, key_of, Small}
 use Rattle.px_text.specs.Sets.{Above}
 use Rattle.px_rule.specs.RightBanks.{OneNumber, OneSet, SetAt, Means, as_index, as_set, IsStep, OnPath, RightBank}

@@ -10,7 +10,7 @@ use Rattle.px_rule.specs.declared.view.Place.TheVariants.{Outside, Inside}
 use Rattle.px_rule.specs.declared.view.Found.{Found}
 use Rattle.px_rule.specs.declared.view.Stand.{Stand}
 use Rattle.px_rule.specs.declared.view.View.{View}
-use Rattle.px_rule.specs.Operands.{Operand}
+use Rattle.px_text.specs.Operands.{Operand}
 use Rattle.px_rule.specs.Words.{packed, nodes_of, steps_of, path_of, long_of, bank_word, place_word}
 use Rattle.px_rule.specs.RightBanks.{RightBank}
 use Rattle.px_rule.specs.Histories.{Begins, named}

@@ -4,7 +4,7 @@ use mathlib.Core.Option.{some}
 use lib.ListN.{get_elem?}
 use Rattle.px_text.specs.declared.op.Op.{Op}
 use Rattle.px_rule.specs.declared.view.Found.{Found}
-use Rattle.px_rule.specs.Operands.{Operand, index, set_of, first_is_set, second_is_set}
+use Rattle.px_text.specs.Operands.{Operand, index, set_of, first_is_set, second_is_set}
 use Rattle.px_rule.specs.Words.{Small, node_word, step_word, key_of}
 use Rattle.px_text.specs.Sets.{Above}
 

@@ -1,4 +1,4 @@
-pub mod Operands
+pub mod Kinds
 pub mod Words
 pub mod RightBanks
 pub mod Known

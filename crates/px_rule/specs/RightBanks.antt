@@ -2,7 +2,7 @@
 use Rattle.std.specs.Prelude.{◌≡◌, ◌≢◌, ℕ, ◌+◌, ◌<◌, ◌≤◌, Bool, true, false, List, [], ◌∷◌}
 use Rattle.px_text.specs.declared.op.Op.{Op}
 use Rattle.px_text.specs.Sets.{Above}
-use Rattle.px_rule.specs.Operands.{Operand, index, set_of, first_is_set, second_is_set}
+use Rattle.px_text.specs.Operands.{Operand, index, set_of, first_is_set, second_is_set}
 use Rattle.px_rule.specs.Words.{Small, node_word, step_word, key_of}
 
 -- `nodes` is the number of node places, and `mem` gives the word at each place.

@@ -12,7 +12,7 @@ use Rattle.px_rule.specs.declared.view.Stand.{Stand}
 use Rattle.px_rule.specs.declared.view.Stay.{Stay}
 use Rattle.px_rule.specs.declared.view.Touch.{Touch}
 use Rattle.px_rule.specs.declared.view.View.{View}
-use Rattle.px_rule.specs.Operands.{Operand}
+use Rattle.px_text.specs.Operands.{Operand}
 use Rattle.px_rule.specs.Words.{nodes_of, steps_of, words_of, path_of, long_of, bank_word, place_word}
 use Rattle.px_rule.specs.Histories.{Histories}
 use Rattle.px_rule.specs.Banks.{Banks}

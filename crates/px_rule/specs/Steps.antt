@@ -13,7 +13,7 @@ use Rattle.px_rule.specs.declared.view.Stand.{Stand}
 use Rattle.px_rule.specs.declared.view.Stay.{Stay}
 use Rattle.px_rule.specs.declared.view.Touch.{Touch}
 use Rattle.px_rule.specs.declared.view.View.{View}
-use Rattle.px_rule.specs.Operands.{Operand}
+use Rattle.px_text.specs.Operands.{Operand}
 use Rattle.px_rule.specs.Words.{packed, version_of, building_of, count_of, shows, nodes_of, steps_of, path_of, long_of}
 use Rattle.px_rule.specs.RightBanks.{OneNumber, OneSet, RightBank}
 use Rattle.px_rule.specs.Known.{found, Agrees, MayPut}

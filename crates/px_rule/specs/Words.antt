@@ -2,7 +2,7 @@
 use Rattle.std.specs.Prelude.{ℕ, suc, ◌+◌, ◌-◌, ◌*◌, ◌/◌, ◌%◌, ◌^◌, ◌<◌, ◌≤◌, Bool, cond, eqb, leb, ◌&&◌, min, List, slice_index}
 use Rattle.px_text.specs.declared.op.Op.{Op}
 use Rattle.px_rule.specs.declared.shape.Shape.{Shape}
-use Rattle.px_rule.specs.Operands.{kind_of}
+use Rattle.px_rule.specs.Kinds.{kind_of}
 
 -- The word of a bank: its version, whether it is being built, and how many seats are counted in
 abbrev pub packed : ℕ → ℕ → ℕ → ℕ

@@ -1,7 +1,7 @@
 //! What the entries of a history mean, and which answers of steps are right.
 ghost use Rattle.std.specs.Prelude.{◌≡◌, ℕ, List, [], length, ◌<◌};
 ghost use Rattle.px_text.specs.declared.op.Op.{Op};
-ghost use Rattle.px_rule.specs.Operands.{Operand};
+ghost use Rattle.px_text.specs.Operands.{Operand};
 
 /// What a history is about. It has meanings alone, and no method that runs.
 pub trait Law {

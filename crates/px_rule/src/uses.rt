@@ -88,7 +88,7 @@ mod tests {
 
         ghost use Rattle.std.specs.Prelude.{ℕ, List, length, ◌<◌};
         ghost use Rattle.px_text.specs.declared.op.Op.{Op};
-        ghost use Rattle.px_rule.specs.Operands.{Operand};
+        ghost use Rattle.px_text.specs.Operands.{Operand};
         ghost use Rattle.std.proofs.Common.{arith};
 
         ghost who = { λ vote. vote.pass };

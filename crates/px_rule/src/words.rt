@@ -1,6 +1,6 @@
 //! Words of facts, and the places at which they are looked for.
 ghost use Rattle.std.specs.Prelude.{◌≡◌, ◌<◌, ◌≤◌};
-ghost use Rattle.px_rule.specs.Operands.{kind_of};
+ghost use Rattle.px_rule.specs.Kinds.{kind_of};
 ghost use Rattle.px_rule.specs.Words.{node_word as word_of_node, step_word as word_of_step, key_of, IsShape, size_of, path_of, long_of, shows};
 
 use crate::shape::Shape;

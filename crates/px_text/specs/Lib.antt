@@ -6,4 +6,5 @@ pub mod Readings
 pub mod Scans
 pub mod Nodes
 pub mod Sets
+pub mod Operands
 pub mod Rows

@@ -6,7 +6,7 @@ use Rattle.px_rule.specs.declared.shape.Shape.{Shape}
 use Rattle.px_rule.specs.declared.view.Found.{Found}
 use Rattle.px_rule.specs.declared.view.Stay.{Stay}
 use Rattle.px_rule.specs.declared.view.View.{View}
-use Rattle.px_rule.specs.Operands.{Operand, set_of}
+use Rattle.px_text.specs.Operands.{Operand, set_of}
 use Rattle.px_rule.specs.Words.{Small, IsShape, node_word, key_of, is_node, nodes_of}
 use Rattle.px_rule.specs.Table.{bank_in, version_in}
 use Rattle.px_text.specs.Sets.{Above, Rising}

@@ -1,7 +1,7 @@
--- What a step is computed from.
+-- What a step of the machine is computed from.
 use Rattle.std.specs.Prelude.{ℕ, List, Bool, true, false}
 use Rattle.px_text.specs.declared.op.Op.{Op}
-use Rattle.px_text.specs.declared.op.Op.TheVariants.{TextClass, NumberClass, Pop, Add, Push, Mask}
+use Rattle.px_text.specs.declared.op.Op.TheVariants.{TextClass, NumberClass, Add, Mask}
 
 -- a class or a label, or a set, which is a rising list of its elements
 pub data Operand : Type 0 where
@@ -18,12 +18,3 @@ abbrev pub second_is_set : Op → Bool
 second_is_set Add = true
 second_is_set Mask = true
 second_is_set _ = false
-
--- the kind by which words name an operation
-abbrev pub kind_of : Op → ℕ
-kind_of TextClass = 2
-kind_of NumberClass = 3
-kind_of Pop = 4
-kind_of Add = 5
-kind_of Push = 6
-kind_of Mask = 7
