@@ -1,0 +1,2 @@
+pub mod StatesByNumber
+pub mod Rows

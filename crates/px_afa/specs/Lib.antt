@@ -1,0 +1,12 @@
+pub mod Contents
+pub mod Truth
+pub mod Building
+pub mod Sets
+pub mod Labels
+pub mod Classes
+pub mod Functions
+pub mod Machine
+pub mod Accepting
+pub mod Orders
+pub mod Steps
+pub mod Tables
