@@ -10,3 +10,4 @@ pub mod Accepting
 pub mod Orders
 pub mod Steps
 pub mod Tables
+pub mod Sound

@@ -13,4 +13,4 @@ mod program;
 mod state;
 
 pub use program::Program;
-pub use state::{Body, First, State};
+pub use state::{Body, First, Related, State};

@@ -32,3 +32,10 @@ pub struct First {
     pub id: u32,
     pub state: u32,
 }
+
+/// A Value state that compares with a number, with the class of its number.
+#[derive(Clone, Copy, Debug, Drop, PartialEq, Eq)]
+pub struct Related {
+    pub class: u32,
+    pub state: u32,
+}
