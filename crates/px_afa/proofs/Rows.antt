@@ -18,7 +18,8 @@ use Rattle.px_afa.specs.Classes.{literals_of, constants_of, number_class}
 use Rattle.px_afa.specs.Functions.{push}
 use Rattle.px_afa.specs.Machine.{machine_of}
 use Rattle.px_afa.specs.Accepting.{accepted}
-use Rattle.px_afa.specs.Steps.{index, set_of, Step, run_of}
+use Rattle.px_text.specs.Operands.{index, set_of}
+use Rattle.px_afa.specs.Steps.{Step, run_of}
 
 -- a whole number in units of 10 ^ -18
 abbrev whole : ℕ → ℤ

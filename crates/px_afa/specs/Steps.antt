@@ -2,6 +2,7 @@
 use Rattle.std.specs.Prelude.{◌≡◌, ℕ, List, [], ◌∷◌, ◌++◌, length, Option}
 use Rattle.px_text.specs.declared.op.Op.{Op}
 use Rattle.px_text.specs.declared.op.Op.TheVariants.{TextClass, NumberClass, Pop, Add, Push, Mask}
+use Rattle.px_text.specs.Operands.{Operand, index, set_of}
 use Rattle.px_text.specs.Nodes.{Root}
 use Rattle.px_xpath.specs.Histories.{Change}
 use Rattle.px_afa.specs.declared.state.State.{State}
@@ -12,11 +13,6 @@ use Rattle.px_afa.specs.Labels.{label_number, names_of}
 use Rattle.px_afa.specs.Classes.{text_class, number_class}
 use Rattle.px_afa.specs.Functions.{value_text, value_number, pop, push}
 use Rattle.px_afa.specs.Machine.{machine_of, values_of, after_leaf, after_element, needed_inside, gathered_of}
-
--- a class or a label, or a set, which is a rising list of its elements
-pub data Operand : Type 0 where
-  index : ℕ → Operand
-  set_of : List ℕ → Operand
 
 pub record Step : Type 0 where
   pub op : Op
