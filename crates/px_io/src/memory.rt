@@ -51,7 +51,7 @@ impl Source for MemSource {
 }
 
 /// Copies as much of the front as fits: how many bytes that is.
-fn copy_front(from: &[u8], into: &mut [u8]) -> usize
+pub(crate) fn copy_front(from: &[u8], into: &mut [u8]) -> usize
     ensures count { result ≡ min (length from.now) (length into.old) }
     ensures within { result ≤ length into.new }
     ensures copied { take result into.new ≡ take result from.now }
