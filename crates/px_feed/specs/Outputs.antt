@@ -15,9 +15,13 @@ use Rattle.px_feed.specs.Items.{Item, Adding, Removing, Replacing, Showing, Stop
 use Rattle.px_feed.specs.Lines.{line_text, is_refusal}
 use Rattle.px_feed.specs.Matches.{Parses}
 
--- the id that a text of one to nine digits names
+-- the text is one to nine digits
+abbrev pub names_id : List ℕ → Bool
+names_id text = nat_le 1 (length text) && nat_le (length text) 9 && list_all is_digit text
+
+-- the id that a text names
 abbrev pub id_of : List ℕ → Option ℕ
-id_of text = if nat_le 1 (length text) && nat_le (length text) 9 && list_all is_digit text then Some (value text) else None
+id_of text = if names_id text then Some (value text) else None
 
 -- what an item asks, its texts read
 pub data Ask : Type 0 where

@@ -5,8 +5,10 @@
 //! a run of the program ends.
 #![tactic(auto)]
 
+mod id;
 mod line;
 mod status;
 
+pub use id::id_of;
 pub use line::{FeedFault, FeedKind, OutLine, line_of};
 pub use status::Status;
