@@ -19,3 +19,4 @@ pub mod Feeds
 pub mod Taken
 pub mod Readings
 pub mod Feeding
+pub mod Closing

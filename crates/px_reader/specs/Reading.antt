@@ -10,7 +10,7 @@ use Rattle.px_reader.specs.declared.reader.Reader.{Reader}
 use Rattle.px_reader.specs.Judged.{Judged, BeginsTree}
 use Rattle.px_reader.specs.Lines.{lines_of, is_whole, has_no_feed}
 use Rattle.px_reader.specs.Machine.{State}
-use Rattle.px_reader.specs.Spelling.{events_of}
+use Rattle.px_reader.specs.Spelling.{Spells, events_of}
 use Rattle.px_reader.specs.States.{state_of}
 use Rattle.px_reader.specs.Verdicts.{HasVerdict, IsFaulty, IsTree}
 
@@ -97,3 +97,11 @@ ReadsLines old state lines before behind =
 abbrev pub fault_at : ℕ → LineFault → ReaderFault
 fault_at line (Kind kind) = Doc (record { line = line; kind = kind })
 fault_at line LineMemory = Memory
+
+-- Where what was read ends with a line, it is a whole document.
+abbrev pub IsClosed : Reader → Type 0
+IsClosed reader = (bytes : List ℕ) (given : List Event) → HasRead reader bytes given → is_whole bytes ≡ true → (root : Root) × HasVerdict bytes (IsTree root)
+
+-- Where what was read ends with a line, it spells no tree.
+abbrev pub IsStillOpen : Reader → Type 0
+IsStillOpen reader = (bytes : List ℕ) (given : List Event) → HasRead reader bytes given → is_whole bytes ≡ true → (root : Root) → Spells (lines_of bytes) root → ⊥

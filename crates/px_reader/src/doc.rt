@@ -33,6 +33,14 @@ impl Doc {
         Ok(Doc { bytes })
     }
 
+    /// The document that bytes spell of which this is known. It takes no memory.
+    pub fn spelt(bytes: Bytes) -> Doc
+        requires { SpellsTree bytes }
+        ensures same { content result ≡ bytes }
+    {
+        Doc { bytes }
+    }
+
     pub fn bytes(&self) -> &[u8]
         ensures same { result.now ≡ content self.now }
         ensures spelt { SpellsTree result.now }

@@ -13,6 +13,7 @@ mod laws;
 mod machine;
 mod reader;
 
+pub use cuts::{split_at_space, without_end};
 pub use doc::Doc;
 pub use event::Event;
 pub use fault::{DocFault, DocKind, ReaderFault};

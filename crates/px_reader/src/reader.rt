@@ -24,11 +24,11 @@ pub struct Reader {
 }
 
 impl Reader {
-    ghost use Rattle.std.specs.Prelude.{◌≡◌, ◌++◌, [], List, ℕ, take, IsTrue, IfOk, OnOk, OnErr, IfErr};
+    ghost use Rattle.std.specs.Prelude.{◌≡◌, ◌++◌, [], List, ℕ, take, IsTrue, IsFalse, IfOk, OnOk, OnErr, IfErr};
     ghost use Rattle.px_reader.specs.declared.event.Event as events;
     ghost use Rattle.px_reader.specs.declared.fault.ReaderFault as faults;
     ghost use Rattle.px_reader.specs.Lines.{is_ended, has_no_feed};
-    ghost use Rattle.px_reader.specs.Reading.{HasRead, HasFailed, ReadsPart, GivesMore, FailsBy, EndsWhole, FailsAtEnd, ReadsLines};
+    ghost use Rattle.px_reader.specs.Reading.{HasRead, HasFailed, ReadsPart, GivesMore, FailsBy, EndsWhole, FailsAtEnd, ReadsLines, IsClosed, IsStillOpen};
     ghost use Rattle.px_reader.specs.States.{state_of, Judging};
 
     /// A reader before its first document. It fails only where memory is refused.
@@ -85,6 +85,14 @@ impl Reader {
             Err(fault) => self.fault = Some(fault),
         }
         answer
+    }
+
+    /// Whether the root of the document is closed, where the pieces so far end with a line.
+    pub fn is_behind_root(&self) -> bool
+        ensures closed { IsTrue result → IsClosed self.now }
+        ensures open { IsFalse result → IsStillOpen self.now }
+    {
+        self.machine.is_behind_root()
     }
 
     /// Takes the lines that end in the piece, and keeps what is behind them.
