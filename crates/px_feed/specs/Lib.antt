@@ -2,5 +2,8 @@ pub mod Lines
 pub mod Matches
 pub mod Statuses
 pub mod Items
+pub mod Following
+pub mod Gathered
+pub mod Cutting
 pub mod Outputs
 pub mod Rows

@@ -5,10 +5,15 @@
 //! a run of the program ends.
 #![tactic(auto)]
 
+mod fault;
+mod gathering;
 mod id;
+mod item;
 mod line;
+mod outside;
 mod status;
 
 pub use id::id_of;
+pub use item::Item;
 pub use line::{FeedFault, FeedKind, OutLine, line_of};
 pub use status::Status;
