@@ -1,3 +1,5 @@
+pub mod Generator
+pub mod GeneratorRows
 pub mod Lines
 pub mod Matches
 pub mod Statuses

@@ -2,17 +2,19 @@
 //!
 //! An [`OutLine`] is the answer to one item of a feed, or to the one document of a match; its
 //! text is that of its `Display`, and [`line_of`] gives it with its line feed. A [`Status`] is how
-//! a run of the program ends.
+//! a run of the program ends. [`generate`] gives feeds of any size, for trials.
 #![tactic(auto)]
 
 mod fault;
 mod gathering;
+mod generator;
 mod id;
 mod item;
 mod line;
 mod outside;
 mod status;
 
+pub use generator::generate;
 pub use id::id_of;
 pub use item::Item;
 pub use line::{FeedFault, FeedKind, OutLine, line_of};
