@@ -20,7 +20,8 @@ use Rattle.px_rule.specs.Steps.{Looked, Written, Shown}
 use Rattle.px_rule.specs.Table.{is_inside, bank_in, version_in}
 use Rattle.px_rule.proofs.Known.{kind_within, same_step, means_one, stands_sound}
 use Rattle.px_rule.proofs.Paths.{nodes_wide, node_is_node, node_path, step_path}
-use Rattle.px_intern.specs.Kept.{Grew, KeptAt, AsNode, AsStep, Proper, PassedBy}
+use Rattle.px_intern.specs.Kept.{Grew, KeptAt, Tells, AsNode, AsStep, Proper, PassedBy}
+use Rattle.px_intern.specs.Answers.{Names}
 
 key_of_fields : (kind a b r : ℕ) → Small a → Small b → Small r → key_of (kind * 1152921504606846976 + a * 1099511627776 + b * 1048576 + r) ≡ kind * 1152921504606846976 + a * 1099511627776 + b * 1048576 + 0
 key_of_fields kind a b r sa sb sr = omega arith
@@ -311,3 +312,9 @@ pub rising_at : (xs : List ℕ) (i d : ℕ) → Rising xs → i < length xs → 
 rising_at [] i d r h = absurd (omega arith)
 rising_at (x ∷ xs) zero d r h = (r.0, r.1, refl)
 rising_at (x ∷ xs) (suc i) d r h = rising_at xs i d r.2 (omega arith)
+
+module _ {E : Type 0} (right : List E → Op → Operand → Operand → List ℕ → Type 0) (z : Shape) where
+  -- a number goes on standing for its set
+  pub told_grew : (v w : View E) (s : ℕ) (xs : List ℕ) → Grew v w → Names right z v s xs → Names right z w s xs
+  told_grew v w s xs g h =
+      subst (λ (q : Stay). Tells right z (bank_in q.place) (version_in q.place) w true s (set_of xs)) (sym g.stay) (stands_grew right z (bank_in v.stay.place) (version_in v.stay.place) v w g true s (set_of xs) h)

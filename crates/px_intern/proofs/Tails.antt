@@ -6,6 +6,7 @@ use Rattle.px_rule.specs.declared.view.View.{View}
 use Rattle.px_text.specs.Operands.{Operand, set_of}
 use Rattle.px_rule.specs.Words.{Small, node_word, nodes_of, steps_of, path_of, long_of}
 use Rattle.px_rule.specs.RightBanks.{SetAt, RightBank}
+use Rattle.px_text.specs.Sets.{Rising}
 use Rattle.px_rule.specs.Known.{Agrees}
 use Rattle.px_rule.specs.Steps.{Looked, Shown}
 use Rattle.px_rule.proofs.Known.{stands_sound}
@@ -33,6 +34,10 @@ room nodes mem s e (f ∷ fs) h = let less = h.6 in let more = room nodes mem h.
 short : (nodes : ℕ) (mem : ℕ → ℕ) (s : ℕ) (xs : List ℕ) → SetAt nodes mem s xs → length xs ≤ 1048576
 short nodes mem s [] h = omega arith
 short nodes mem s (e ∷ es) h = let r = room nodes mem s e es h in omega arith
+
+rising_at : (nodes : ℕ) (mem : ℕ → ℕ) (s : ℕ) (xs : List ℕ) → SetAt nodes mem s xs → Rising xs
+rising_at nodes mem s [] h = tt
+rising_at nodes mem s (e ∷ es) h = (h.3, h.6, rising_at nodes mem h.0 es h.7)
 
 place_of : (nodes : ℕ) (mem : ℕ → ℕ) (s : ℕ) (xs : List ℕ) → s ≢ 0 → SetAt nodes mem s xs → (s < nodes) × (0 < length xs)
 place_of nodes mem s [] some_set h = absurd (some_set h)
@@ -86,3 +91,7 @@ module _ {E : Type 0} (right : List E → Op → Operand → Operand → List �
 
   pub one_named : (v : View E) (s : ℕ) (xs ys : List ℕ) → Sound right z k n v → Named v s xs → Named v s ys → xs ≡ ys
   one_named v s xs ys sound a b = one_set (nodes_of z) sound.mem s xs ys (a sound.mem sound.bank sound.agrees) (b sound.mem sound.bank sound.agrees)
+
+  -- a number names rising elements alone
+  pub rising_named : (v : View E) (s : ℕ) (xs : List ℕ) → Sound right z k n v → Named v s xs → Rising xs
+  rising_named v s xs sound named = rising_at (nodes_of z) sound.mem s xs (named sound.mem sound.bank sound.agrees)

@@ -15,7 +15,7 @@ use Rattle.px_rule.proofs.Paths.{nodes_wide, node_is_node}
 use Rattle.px_intern.specs.Kept.{Grew, Wrote, KeptAt, IsAt, Proper, Sound, SuffixWord, SetBlocked, KeyBlocked, Tells}
 use Rattle.px_intern.proofs.Growing.{grew_same, stands_grew, rising_at, proper_node, names_grew, grew_trans, inside_at}
 use Rattle.px_intern.proofs.Sounds.{wrote_on, wrote_none}
-use Rattle.px_intern.proofs.sets.intern.Goals as goal
+use Rattle.px_intern.proofs.sets.intern_rising.Goals as goal
 
 -- the next element, the elements after it, and the list that the number stands for
 abbrev Next : List ℕ → ℕ → Type 0
@@ -45,7 +45,7 @@ module _ {E : Type 0} (right : List E → Op → Operand → Operand → List �
   suffix_new w x i e t es word from names is f h = (h.0, h.1, record { front = take i x; element = e; rest = es; tail = t; suffix = split x i e es from; told = named t es names; word = h.2 ∙ is })
 
 pub node_word-word-requires : goal.node_word-word-requires
-node_word-word-requires g c = let i = c.loop-left.invariant in record { fields = ((next c.args.set.now c.loop-left.left c.requires.set c.loop-left-test.true i.2).0, i.3) }
+node_word-word-requires g c = let i = c.loop-left.invariant in record { fields = ((next c.args.elements.now c.loop-left.left c.requires.set c.loop-left-test.true i.2).0, i.3) }
 
 pub seek-requires-clause-table : goal.seek-requires-clause-table
 seek-requires-clause-table g c = c.loop-left.invariant.0 ∙ c.requires.table
@@ -61,15 +61,15 @@ seek-requires-clause-word g c shape =
     let v = c.loop-left.seat.view in
     let k = bank_in u.stay.place in
     let n = version_in u.stay.place in
-    let x = next c.args.set.now c.loop-left.left c.requires.set c.loop-left-test.true i.2 in
-    let e : ℕ = slice_index_or c.args.set.now (c.loop-left.left - 1) 0 in
-    let there : Proper g.L.Law.right z k n v (node_word e c.loop-left.number) = proper_node g.L.Law.right z k n e c.loop-left.number (drop c.loop-left.left c.args.set.now) v shape x.0 i.3 x.1 i.4 in
+    let x = next c.args.elements.now c.loop-left.left c.requires.set c.loop-left-test.true i.2 in
+    let e : ℕ = slice_index_or c.args.elements.now (c.loop-left.left - 1) 0 in
+    let there : Proper g.L.Law.right z k n v (node_word e c.loop-left.number) = proper_node g.L.Law.right z k n e c.loop-left.number (drop c.loop-left.left c.args.elements.now) v shape x.0 i.3 x.1 i.4 in
     subst (λ (q : Stay × ℕ). Proper g.L.Law.right z (bank_in q.0.place) (version_in q.0.place) v q.1) (λ j. (sym i.1.stay j, sym c.node_word-word.ensures.word j)) there
 
 pub loop-left-init : goal.loop-left-init
 loop-left-init g c =
     let u = c.args.seat.now.view in
-    let xs = c.args.set.now in (
+    let xs = c.args.elements.now in (
       refl,
       grew_same u,
       le_refl (length xs),
@@ -85,7 +85,7 @@ loop-left-preserved g c =
     let i = c.loop-left.invariant in
     let z = c.args.shared.now.shape in
     let R = g.L.Law.right in
-    let xs = c.args.set.now in
+    let xs = c.args.elements.now in
     let x = next xs c.loop-left.left c.requires.set c.loop-left-test.true i.2 in
     let e : ℕ = slice_index_or xs (c.loop-left.left - 1) 0 in
     let t = c.loop-left.number in
@@ -133,7 +133,7 @@ returns-in-Blocked-clause-wrote g c =
     let i = c.loop-left.invariant in
     let z = c.args.shared.now.shape in
     let R = g.L.Law.right in
-    let xs = c.args.set.now in
+    let xs = c.args.elements.now in
     let x = next xs c.loop-left.left c.requires.set c.loop-left-test.true i.2 in
     let e : ℕ = slice_index_or xs (c.loop-left.left - 1) 0 in
     let t = c.loop-left.number in
@@ -150,14 +150,14 @@ returns-in-Blocked-clause-wrote g c =
 
 pub returns-in-Blocked-clause-touched : goal.returns-in-Blocked-clause-touched
 returns-in-Blocked-clause-touched g c =
-    full c.args.seat.now.view.touch.touches c.loop-left.seat.view.touch.touches c.seek.new.seat.view.touch.touches c.loop-left.left (length c.args.set.now) c.loop-left.invariant.7 c.in-Blocked.ensures.touched c.loop-left-test.true c.loop-left.invariant.2
+    full c.args.seat.now.view.touch.touches c.loop-left.seat.view.touch.touches c.seek.new.seat.view.touch.touches c.loop-left.left (length c.args.elements.now) c.loop-left.invariant.7 c.in-Blocked.ensures.touched c.loop-left-test.true c.loop-left.invariant.2
 
 pub returns-in-Blocked-clause-answer : goal.returns-in-Blocked-clause-answer
 returns-in-Blocked-clause-answer g c =
     let i = c.loop-left.invariant in
     let z = c.args.shared.now.shape in
     let R = g.L.Law.right in
-    let xs = c.args.set.now in
+    let xs = c.args.elements.now in
     let x = next xs c.loop-left.left c.requires.set c.loop-left-test.true i.2 in
     let e : ℕ = slice_index_or xs (c.loop-left.left - 1) 0 in
     let t = c.loop-left.number in
@@ -188,7 +188,7 @@ returns-clause-answer g c =
     let i = c.loop-left.invariant in
     let z = c.args.shared.now.shape in
     let R = g.L.Law.right in
-    let xs = c.args.set.now in
+    let xs = c.args.elements.now in
     let u = c.args.seat.now.view in
     let v = c.loop-left.seat.view in
     let k = bank_in u.stay.place in

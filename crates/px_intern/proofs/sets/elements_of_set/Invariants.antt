@@ -2,7 +2,7 @@ use Rattle.std.proofs.Common.{◌≡◌, ◌-◌, ◌++◌, ℕ, List, length}
 use Rattle.px_rule.specs.Table.{bank_in, version_in}
 use Rattle.px_intern.specs.Kept.{Grew, Sound}
 use Rattle.px_intern.proofs.Tails.{Named}
-use Rattle.px_intern.proofs.sets.set_of.Given as goal
+use Rattle.px_intern.proofs.sets.elements_of_set.Given as goal
 
 abbrev pub invariant-loop-rest : goal.invariant-loop-rest
 invariant-loop-rest g l = (let R = g.L.Law.right in let z = l.shared.shape in let u = l.initial.seat.view in let v = l.seat.view in let k = bank_in u.stay.place in let n = version_in u.stay.place in
