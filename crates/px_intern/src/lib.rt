@@ -5,6 +5,8 @@ mod answers;
 mod paths;
 mod sets;
 mod steps;
+#[cfg(test)]
+mod tests;
 mod walk;
 
 pub use answers::{Find, Intern, Put};
