@@ -1,2 +1,10 @@
 pub mod StatesByNumber
 pub mod Rows
+pub mod Members
+pub mod Needed
+pub mod Found
+pub mod SameStates
+pub mod Candidates
+pub mod Growing
+pub mod Right
+pub mod FirstStates

@@ -8,7 +8,7 @@ use Rattle.px_afa.specs.declared.state.Body.{Body}
 use Rattle.px_afa.specs.declared.state.State.{State}
 use Rattle.px_afa.specs.declared.state.State.TheVariants as state
 use Rattle.px_afa.specs.declared.state.First.{First}
-use Rattle.px_afa.specs.Contents.{Content}
+use Rattle.px_afa.specs.Contents.{Content, characters}
 use Rattle.px_afa.specs.Truth.{true_at, state_at}
 use Rattle.px_afa.specs.Sets.{accept, first_set}
 use Rattle.px_afa.specs.Machine.{Machine, gathered_of, all_gathered}
@@ -17,7 +17,7 @@ use Rattle.px_afa.specs.Machine.{Machine, gathered_of, all_gathered}
 abbrev pub true_firsts : List State → List First → Content → List ℕ
 true_firsts states [] root = []
 true_firsts states (f ∷ firsts) root =
-    cond (true_at states f.state [] root) (f.id ∷ true_firsts states firsts root) (true_firsts states firsts root)
+    cond (true_at states f.state (characters root) root) (f.id ∷ true_firsts states firsts root) (true_firsts states firsts root)
 
 -- The first state of a filter is a Path.
 abbrev pub IsPath : List State → ℕ → Type 0
