@@ -8,3 +8,6 @@ pub mod Candidates
 pub mod Growing
 pub mod Right
 pub mod FirstStates
+pub mod ToldLabels
+pub mod ToldClasses
+pub mod Told
