@@ -1,5 +1,5 @@
 -- The children that a Path state looks at are the candidates of a step.
-use Rattle.std.proofs.Common.{◌≡◌, ℕ, Bool, true, false, ◌&&◌, ◌||◌, List, [], ◌∷◌, ◌++◌, map, append-nil, refl, sym, ◌∙◌, ap}
+use Rattle.std.proofs.Common.{◌≡◌, ℕ, Bool, false, ◌&&◌, ◌||◌, List, [], ◌∷◌, ◌++◌, map, append-nil, refl, sym, ◌∙◌, ap}
 use Rattle.std.specs.List.{list_any}
 use Rattle.std.proofs.lemmas.List.Folds.{list_any-append}
 use Rattle.px_text.specs.declared.attribute.Attribute.{Attribute}
@@ -11,8 +11,8 @@ use Rattle.px_xpath.specs.declared.filter.Test.{Test}
 use Rattle.px_xpath.specs.declared.filter.Test.TheVariants as tests
 use Rattle.px_xpath.specs.Meaning.{candidates}
 use Rattle.px_xpath.specs.Meaning as filter
-use Rattle.px_afa.specs.Contents.{Kind, ElementKind, AttributeKind, TextKind, Content, Empty, Leaf, Element, characters, with_attributes, nodes_content, content_of, root_content}
-use Rattle.px_afa.specs.Truth.{meets, is_below, some_child}
+use Rattle.px_afa.specs.Contents.{ElementKind, AttributeKind, TextKind, Content, Empty, characters, with_attributes, nodes_content, content_of, root_content}
+use Rattle.px_afa.specs.Truth.{meets, some_child}
 use Rattle.px_afa.proofs.Members.{or_assoc, or_false}
 
 characters-attributes : (attributes : List Attribute) (content : Content) → characters (with_attributes attributes content) ≡ characters content

@@ -1,5 +1,5 @@
 -- The filters of a live list, by their first states.
-use Rattle.std.proofs.Common.{◌≡◌, ℕ, ◌+◌, ◌≤◌, Bool, true, false, cond, List, [], ◌∷◌, length, map, filter, refl, sym, ◌∙◌, ap, arith, Option, Some, None}
+use Rattle.std.proofs.Common.{◌≡◌, ℕ, Bool, true, false, cond, List, [], ◌∷◌, map, filter, refl, sym, ◌∙◌, ap, None}
 use Rattle.px_text.specs.Nodes.{Root, AtDocument}
 use Rattle.px_xpath.specs.declared.filter.Axis.{Axis}
 use Rattle.px_xpath.specs.declared.filter.Test.{Test}
@@ -12,7 +12,7 @@ use Rattle.px_afa.specs.declared.state.State.{State}
 use Rattle.px_afa.specs.declared.state.State.TheVariants as state
 use Rattle.px_afa.specs.declared.state.First.{First}
 use Rattle.px_afa.specs.Contents.{Content, root_content, characters}
-use Rattle.px_afa.specs.Truth.{state_at, true_at}
+use Rattle.px_afa.specs.Truth.{true_at}
 use Rattle.px_afa.specs.Orders.{IsOrdered}
 use Rattle.px_afa.specs.Building.{Made, share, one_of, way_made, conditions_made, filters_made, automata}
 use Rattle.px_afa.specs.Accepting.{true_firsts, IsPath, ArePaths, HaveSteps}

@@ -10,8 +10,8 @@ use Rattle.px_afa.specs.declared.state.Body.TheVariants as bodies
 use Rattle.px_afa.specs.declared.state.State.{State}
 use Rattle.px_afa.specs.declared.state.State.TheVariants as state
 use Rattle.px_xpath.specs.Meaning.{compares}
-use Rattle.px_afa.specs.Contents.{Content, Empty, Leaf, Element, ElementKind, leaf_kind, characters}
-use Rattle.px_afa.specs.Truth.{state_at, true_at, state_holds, body_holds, some_child, meets, is_below}
+use Rattle.px_afa.specs.Contents.{Content, Empty, Leaf, Element, leaf_kind, characters}
+use Rattle.px_afa.specs.Truth.{state_at, true_at, state_holds, body_holds, some_child, meets}
 use Rattle.px_afa.specs.Orders.{IsOrdered, IsBodyBelow}
 use Rattle.px_afa.proofs.Needed.{true_at-older}
 

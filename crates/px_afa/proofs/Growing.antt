@@ -1,5 +1,5 @@
 -- How the states of a program grow: older states keep their truth, and a state that is shared means what it says.
-use Rattle.std.proofs.Common.{◌≡◌, ℕ, suc, ◌<◌, ◌≤◌, Bool, true, false, not, ◌&&◌, ◌||◌, cond, List, [], ◌∷◌, length, refl, sym, ◌∙◌, ap, arith, nat_eq, nat_lt, Option, Some, None}
+use Rattle.std.proofs.Common.{◌≡◌, ℕ, ◌<◌, ◌≤◌, Bool, true, false, not, ◌&&◌, ◌||◌, cond, List, [], ◌∷◌, length, refl, sym, ◌∙◌, ap, arith, nat_eq, nat_lt, Option, Some, None}
 use Rattle.std.specs.List.{list_any, list_all}
 use Rattle.std.proofs.lemmas.Bool.{eq-eqb, lt-ltb, ltb-true, and_from, and_parts}
 use Rattle.px_afa.specs.declared.state.Body.{Body}
@@ -7,7 +7,7 @@ use Rattle.px_afa.specs.declared.state.Body.TheVariants as bodies
 use Rattle.px_afa.specs.declared.state.State.{State}
 use Rattle.px_afa.specs.declared.state.State.TheVariants as state
 use Rattle.px_afa.specs.Contents.{Content}
-use Rattle.px_afa.specs.Truth.{state_at, true_at, state_holds, body_holds, some_child}
+use Rattle.px_afa.specs.Truth.{state_at, true_at, state_holds, body_holds}
 use Rattle.px_afa.specs.Orders.{IsOrdered, IsStateBelow, IsBodyBelow}
 use Rattle.px_afa.specs.Building.{same_state, number_of, share, made_or_new, Made}
 use Rattle.px_afa.proofs.StatesByNumber.{state_at-older}

@@ -11,3 +11,6 @@ pub mod FirstStates
 pub mod ToldLabels
 pub mod ToldClasses
 pub mod Told
+pub mod Guards
+pub mod Sizes
+pub mod Soundness

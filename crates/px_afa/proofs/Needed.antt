@@ -2,11 +2,6 @@
 use Rattle.std.proofs.Common.{◌≡◌, ℕ, suc, ◌<◌, Bool, true, false, not, ◌&&◌, ◌||◌, cond, List, [], ◌∷◌, length, refl, sym, ◌∙◌, ap, arith, nat_eq, Option, Some}
 use Rattle.std.specs.List.{list_any, list_all}
 use Rattle.std.proofs.lemmas.Bool.{eq-eqb, ne_eqb, eqb-true, or_left, or_right}
-use Rattle.px_xpath.specs.declared.filter.Axis.{Axis}
-use Rattle.px_xpath.specs.declared.filter.Test.{Test}
-use Rattle.px_xpath.specs.declared.filter.Relation.{Relation}
-use Rattle.px_xpath.specs.declared.filter.Value.{Value}
-use Rattle.px_afa.specs.declared.state.Body.{Body}
 use Rattle.px_afa.specs.declared.state.State.{State}
 use Rattle.px_afa.specs.declared.state.State.TheVariants as state
 use Rattle.px_afa.specs.Contents.{Content}

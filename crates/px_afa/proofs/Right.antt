@@ -1,7 +1,7 @@
 -- The states of a filter are true exactly where it holds.
-use Rattle.std.proofs.Common.{◌≡◌, ℕ, ◌<◌, ◌≤◌, Bool, true, false, not, ◌&&◌, ◌||◌, List, [], ◌∷◌, ◌++◌, length, refl, sym, ◌∙◌, ap, arith, nat_lt, Option, Some, None}
+use Rattle.std.proofs.Common.{◌≡◌, ℕ, ◌<◌, Bool, true, false, not, ◌&&◌, ◌||◌, List, [], ◌∷◌, ◌++◌, length, refl, sym, ◌∙◌, ap, arith, nat_lt, Option, Some, None}
 use Rattle.std.specs.List.{list_any, list_all}
-use Rattle.std.proofs.lemmas.List.Folds.{list_any-append, list_all-append}
+use Rattle.std.proofs.lemmas.List.Folds.{list_all-append}
 use Rattle.std.proofs.lemmas.Bool.{lt-ltb, ltb-true, and_from, and_parts}
 use Rattle.px_text.specs.Nodes.{Place, string_value}
 use Rattle.px_xpath.specs.declared.filter.Axis.{Axis}
@@ -19,7 +19,7 @@ use Rattle.px_afa.specs.Truth.{true_at, state_holds, body_holds}
 use Rattle.px_afa.specs.Orders.{IsOrdered, IsStateBelow, IsBodyBelow}
 use Rattle.px_afa.specs.Building.{share, Made, MadeParts, MadeBody, one_of, body_made, end_made, joined, alone, path_made, way_made, condition_made, conditions_made}
 use Rattle.px_afa.proofs.Members.{and_true}
-use Rattle.px_afa.proofs.Candidates.{candidates-are, passes_at}
+use Rattle.px_afa.proofs.Candidates.{candidates-are}
 use Rattle.px_afa.proofs.Growing.{Grows, grows-same, grows-on, shared, parts_below-more}
 
 -- the truth of a state at a place

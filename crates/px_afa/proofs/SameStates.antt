@@ -1,6 +1,5 @@
 -- States that test as the same are equal.
-use Rattle.std.proofs.Common.{◌≡◌, Bool, true, false, ◌&&◌, refl, sym, ◌∙◌, ap, nat_eq}
-use Rattle.std.specs.Ordering.{is_eq, int_cmp}
+use Rattle.std.proofs.Common.{◌≡◌, true, ◌&&◌, refl, ap}
 use Rattle.std.proofs.lemmas.Bool.{eqb-true, and_parts}
 use Rattle.std.proofs.lemmas.Slice.Eq.{bytes_eq-Decides}
 use Rattle.px_xpath.specs.declared.filter.Axis.{Axis}

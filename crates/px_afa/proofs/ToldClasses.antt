@@ -24,7 +24,7 @@ use Rattle.px_afa.specs.declared.state.State.{State}
 use Rattle.px_afa.specs.declared.state.State.TheVariants as state
 use Rattle.px_afa.specs.Truth.{state_at}
 use Rattle.px_afa.specs.Sets.{numbers_where}
-use Rattle.px_afa.specs.Classes.{state_literal, with_literal, literals_of, class_of_text, text_class, state_constant, with_constant, with_if_some, constants_of, cut_of, cut_class, class_of_number, number_class, constant_class, text_value_true, class_compares, number_value_true}
+use Rattle.px_afa.specs.Classes.{state_literal, with_literal, literals_of, class_of_text, text_class, state_constant, with_constant, with_if_some, constants_of, cut_class, class_of_number, number_class, constant_class, text_value_true, class_compares, number_value_true}
 use Rattle.px_afa.specs.Functions.{value_text, value_number}
 use Rattle.px_afa.specs.Machine.{machine_of, values_of}
 use Rattle.px_afa.proofs.Members.{has-add, has-numbers_where, or_false}

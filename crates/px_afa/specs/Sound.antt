@@ -1,7 +1,8 @@
 -- What is true of each program.
-use Rattle.std.specs.Prelude.{ℕ, ◌≤◌, List, [], ◌∷◌, length, map}
+use Rattle.std.specs.Prelude.{ℕ, ◌≤◌, List, [], ◌∷◌, length, map, IsTrue}
 use Rattle.px_text.specs.Sets.{Above}
 use Rattle.px_xpath.specs.Histories.{Subscription, live_size}
+use Rattle.px_xpath.specs.Proper.{is_proper}
 use Rattle.px_afa.specs.Building.{Automata}
 use Rattle.px_afa.specs.Accepting.{ArePaths}
 use Rattle.px_afa.specs.Orders.{IsOrdered}
@@ -10,6 +11,11 @@ use Rattle.px_afa.specs.Orders.{IsOrdered}
 abbrev pub AreRising : List ℕ → Type 0
 AreRising [] = Unit {0}
 AreRising (x ∷ xs) = Above x xs × AreRising xs
+
+-- each filter is one that a text can write
+abbrev pub AreProper : List Subscription → Type 0
+AreProper [] = Unit {0}
+AreProper (s ∷ live) = IsTrue (is_proper s.filter) × AreProper live
 
 pub record IsSound (automata : Automata) : Type 0 where
   pub ordered : IsOrdered automata.states

@@ -9,8 +9,13 @@
 //! them.
 #![tactic(auto)]
 
+mod laws;
 mod program;
 mod state;
 
+pub use laws::{
+    first_states_are_right, guards_are_in_sets, labels_and_classes_are_small,
+    labels_and_classes_tell, programs_are_sound,
+};
 pub use program::Program;
 pub use state::{Body, First, Related, State};
