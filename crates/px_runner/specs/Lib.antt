@@ -1,0 +1,4 @@
+pub mod Events
+pub mod Operands
+pub mod Memos
+pub mod Gives
