@@ -1,2 +1,5 @@
 pub mod Fed
 pub mod Rows
+pub mod Gathered
+pub mod Pruning
+pub mod AcceptedIds

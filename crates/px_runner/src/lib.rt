@@ -6,5 +6,5 @@ mod laws;
 mod memo;
 
 pub use held::Held;
-pub use laws::events_follow_content;
+pub use laws::{accepted_are_matches, events_follow_content, pruning_changes_nothing};
 pub use memo::Memo;
