@@ -14,3 +14,4 @@ pub mod Told
 pub mod Guards
 pub mod Sizes
 pub mod Soundness
+pub mod Counted

@@ -11,3 +11,4 @@ pub mod Orders
 pub mod Steps
 pub mod Tables
 pub mod Sound
+pub mod Counts

@@ -13,6 +13,8 @@ ghost use Rattle.px_afa.specs.Classes.{text_class, number_class};
 ghost use Rattle.px_afa.specs.Machine.{IsTold, machine_of};
 ghost use Rattle.px_afa.specs.Accepting.{true_firsts};
 ghost use Rattle.px_afa.specs.Tables.{guard_of};
+ghost use Rattle.px_afa.specs.Steps.{steps_of};
+ghost use Rattle.px_afa.specs.Counts.{elements, leaves};
 ghost use Rattle.px_afa.specs.Sound.{AreLive, AreProper, IsSound};
 
 /// The label of a child and the classes of its text tell what the states test.
@@ -46,4 +48,9 @@ pub fn labels_and_classes_are_small()
 /// A state is true only in sets that have its guard.
 pub fn guards_are_in_sets()
     ensures guard { (states : List State) (set : ℕ → Bool) (n guard : ℕ) → true_in states set n ≡ true → guard_of states n ≡ Some guard → set guard ≡ true }
+{}
+
+/// The machine makes 8 steps for each element and 6 for each attribute and text.
+pub fn steps_are_counted()
+    ensures count { (history : List Change) (root : Root) → steps_of history root ≡ 8 * elements (root_content root) + 6 * leaves (root_content root) }
 {}

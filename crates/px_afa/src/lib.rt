@@ -15,7 +15,7 @@ mod state;
 
 pub use laws::{
     first_states_are_right, guards_are_in_sets, labels_and_classes_are_small,
-    labels_and_classes_tell, programs_are_sound,
+    labels_and_classes_tell, programs_are_sound, steps_are_counted,
 };
 pub use program::Program;
 pub use state::{Body, First, Related, State};
