@@ -49,9 +49,13 @@ accepted-true_firsts machine told ordered firsts paths root =
     accept-true machine.states firsts root (gathered_of machine (first_set firsts) [] root) paths
     (λ n axis asked body e h. gathered-path machine told ordered root (first_set firsts) [] n axis asked body e h ∙ sym (true_at-path machine.states ordered n axis asked body e (characters root) root))
 
--- the machine accepts exactly the filters that hold
+-- the machine accepts exactly the filters that hold, where each first state is a Path
+pub accepted-holds : (live : List Subscription) → ArePaths (automata live).states (automata live).firsts → (root : Root) →
+    accepted (machine_of (automata live).states) (automata live).firsts (root_content root) ≡ map (λ s. s.id) (filter (λ s. holds s.filter root) live)
+accepted-holds live paths root =
+    accepted-true_firsts (machine_of (automata live).states) (told.told (automata live).states) (filters-ordered live) (automata live).firsts paths (root_content root)
+    ∙ filters-match live [] tt root
+
 pub accepted-matches : (live : List Subscription) → HaveSteps live → (root : Root) →
     accepted (machine_of (automata live).states) (automata live).firsts (root_content root) ≡ map (λ s. s.id) (filter (λ s. holds s.filter root) live)
-accepted-matches live steps root =
-    accepted-true_firsts (machine_of (automata live).states) (told.told (automata live).states) (filters-ordered live) (automata live).firsts (filters-paths live steps [] tt) (root_content root)
-    ∙ filters-match live [] tt root
+accepted-matches live steps root = accepted-holds live (filters-paths live steps [] tt) root

@@ -30,10 +30,13 @@ pub fn pruning_changes_nothing()
     ensures same { (machine : Machine) (firsts : List First) (root : Content) → accepted machine firsts root ≡ accepted_of_all machine firsts root }
 {}
 
-/// The machine accepts exactly the filters that hold of the document.
+/// The machine accepts exactly the filters that hold of the document, with only the needed states
+/// kept and with all.
 pub fn accepted_are_matches()
     ensures live { (live : List Subscription) → HaveSteps live → (root : Root) →
         accepted (machine_of (automata live).states) (automata live).firsts (root_content root) ≡ map (λ s. s.id) (filter (λ s. holds s.filter root) live) }
     ensures behind { (history : List Change) → HaveSteps (live history) → (root : Root) →
         accepted (machine_of (program history).states) (program history).firsts (root_content root) ≡ matches history root }
+    ensures unpruned { (history : List Change) → HaveSteps (live history) → (root : Root) →
+        accepted_of_all (machine_of (program history).states) (program history).firsts (root_content root) ≡ matches history root }
 {}
