@@ -4,15 +4,16 @@ ghost use Rattle.std.specs.Prelude.{◌≡◌, ℕ, ◌+◌, ◌*◌, ◌<◌, �
 ghost use Rattle.px_text.specs.Nodes.{Root};
 ghost use Rattle.px_xpath.specs.Histories.{Subscription, Change, live_size, matches};
 ghost use Rattle.px_xpath.specs.Meaning.{holds};
+ghost use Rattle.px_afa.specs.declared.state.Body.{Body};
 ghost use Rattle.px_afa.specs.declared.state.State.{State};
 ghost use Rattle.px_afa.specs.Contents.{Kind, root_content};
 ghost use Rattle.px_afa.specs.Building.{automata, program};
-ghost use Rattle.px_afa.specs.Sets.{true_in};
+ghost use Rattle.px_afa.specs.Sets.{true_in, body_in};
 ghost use Rattle.px_afa.specs.Labels.{names_of, label_number};
 ghost use Rattle.px_afa.specs.Classes.{text_class, number_class};
 ghost use Rattle.px_afa.specs.Machine.{IsTold, machine_of};
 ghost use Rattle.px_afa.specs.Accepting.{true_firsts};
-ghost use Rattle.px_afa.specs.Tables.{guard_of};
+ghost use Rattle.px_afa.specs.Tables.{guard_of, body_guard};
 ghost use Rattle.px_afa.specs.Steps.{steps_of};
 ghost use Rattle.px_afa.specs.Counts.{elements, leaves};
 ghost use Rattle.px_afa.specs.Sound.{AreLive, AreProper, IsSound};
@@ -45,8 +46,9 @@ pub fn labels_and_classes_are_small()
     ensures numbers { (states : List State) (text : List ℕ) → number_class states text ≤ 2 * length states + 1 }
 {}
 
-/// A state is true only in sets that have its guard.
+/// A state, and what has to be true at a child, is true only in sets that have its guard.
 pub fn guards_are_in_sets()
+    ensures body { (states : List State) (set : ℕ → Bool) (body : Body) (guard : ℕ) → body_in (true_in states set) body ≡ true → body_guard states body ≡ Some guard → set guard ≡ true }
     ensures guard { (states : List State) (set : ℕ → Bool) (n guard : ℕ) → true_in states set n ≡ true → guard_of states n ≡ Some guard → set guard ≡ true }
 {}
 
