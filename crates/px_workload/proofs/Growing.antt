@@ -1,0 +1,31 @@
+-- Histories that grow at their end.
+use Rattle.std.proofs.Common.{◌≡◌, ℕ, ◌+◌, ◌≤◌, List, [], ◌∷◌, ◌++◌, length, refl, subst, arith, ap, sym, append-nil}
+use Rattle.px_xpath.specs.Histories.{Change, Adds, Drops, Replaces, Subscription, after, live, live_from, live_size, NamesLive, AllMayCome}
+use Rattle.px_workload.specs.Slots.{kept, added}
+
+-- what is live behind one change more
+pub live_from-grows : (version : ℕ) (before : List Subscription) (changes : List Change) (c : Change) (n : ℕ) → n ≡ version + length changes + 1 →
+    live_from version before (changes ++ c ∷ []) ≡ after n (live_from version before changes) c
+live_from-grows version before [] c n e = let same : version + 1 ≡ n = omega arith in ap (λ m. after m before c) same
+live_from-grows version before (x ∷ changes) c n e =
+    live_from-grows (version + 1) (after (version + 1) before x) changes c n (omega arith)
+
+pub live-grows : (changes : List Change) (c : Change) → live (changes ++ c ∷ []) ≡ after (length changes + 1) (live changes) c
+live-grows changes c = live_from-grows 0 [] changes c (length changes + 1) (omega arith)
+
+-- what may come last
+pub last_may_come : (version : ℕ) (before : List Subscription) (changes : List Change) (c : Change) (n : ℕ) → n ≡ version + length changes + 1 →
+    AllMayCome version before (changes ++ c ∷ []) →
+    NamesLive c (live_from version before changes) × (live_size (after n (live_from version before changes) c) ≤ 500_000)
+last_may_come version before [] c n e h =
+    let same : version + 1 ≡ n = omega arith in
+    let P : ℕ → Type 0 = λ m. live_size (after m before c) ≤ 500_000 in
+    (h.0, subst P same h.1)
+last_may_come version before (x ∷ changes) c n e h =
+    last_may_come (version + 1) (after (version + 1) before x) changes c n (omega arith) h.2
+
+-- what is live behind a change: what it leaves, and what it adds
+pub after-kept-added : (version : ℕ) (before : List Subscription) (c : Change) → after version before c ≡ kept c before ++ added version c
+after-kept-added version before (Adds who f) = refl
+after-kept-added version before (Drops who id) = sym (append-nil _)
+after-kept-added version before (Replaces who id new) = sym (append-nil _)

@@ -1,0 +1,4 @@
+pub mod Accepted
+pub mod Changes
+pub mod Slots
+pub mod Stands

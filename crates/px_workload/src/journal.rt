@@ -1,0 +1,122 @@
+//! The changes that were accepted, one after another.
+
+ghost use Rattle.std.specs.Prelude.{◌≡◌, ◌<◌, ◌≤◌, ◌+◌, ◌++◌, ◌∷◌, [], ℕ, length, IfOk, IfSome, IsSome, IsTrue, ◌↔◌, OnOk};
+ghost use Rattle.std.specs.List.{find};
+ghost use Rattle.px_xpath.specs.Histories as histories;
+ghost use Rattle.px_xpath.specs.Subscribed.{subscriptions};
+ghost use Rattle.px_workload.specs.Changes as changes;
+
+use crate::change::Change;
+use crate::live::Live;
+use crate::past::Past;
+use crate::snapshot::{copies, copies_after};
+use crate::table::Table;
+use px_xpath::size;
+use std::alloc::{AllocError, Global};
+use std::marker::Model;
+
+/// The history of a workload. Contracts see the changes that were accepted, which are a legal
+/// history, and how many more fit in the memory that was taken. What it keeps is the filters that
+/// are live and a slot for each change.
+#[derive(Drop)]
+pub struct Journal {
+    past: Past,
+    table: Table,
+}
+
+impl Model for Journal {
+    ghost use Rattle.std.specs.Prelude.{◌-◌};
+    ghost use Rattle.std.specs.Vec.{vec_len, vec_capacity};
+    ghost use Rattle.px_workload.specs.Accepted.{Accepted, accepted_code};
+    ghost use Rattle.px_workload.specs.Stands.{Stands};
+
+    ghost Value = { Accepted };
+
+    ghost coded = { accepted_code };
+
+    ghost view = { λ j. record { changes = j.past.changes; room = vec_capacity j.table.slots - vec_len j.table.slots } };
+
+    ghost invariant = { λ j. Stands j.past.changes j.table.slots.items };
+}
+
+impl Journal {
+    /// A journal of no changes. It takes no memory.
+    pub fn new(alloc: Global) -> Journal
+        ensures empty { result.changes ≡ [] }
+    {
+        Journal {
+            past: Past::new(),
+            table: Table::new(alloc),
+        }
+    }
+
+    /// Makes room for one change at least, and changes nothing else.
+    pub fn reserve(&mut self) -> Result<(), AllocError>
+        ensures same { self.new.changes ≡ self.old.changes }
+        ensures room { OnOk result (1 ≤ self.new.room) }
+    {
+        self.table.slots.reserve(1)
+    }
+
+    /// Accepts a change that may come where it stands, and answers the new version.
+    pub fn append(&mut self, change: Change) -> u32
+        requires room { 1 ≤ self.old.room }
+        requires legal { histories.IsLegal (changes.history (self.old.changes ++ change ∷ [])) }
+        ensures accepted { self.new.changes ≡ self.old.changes ++ change ∷ [] }
+        ensures room { self.new.room + 1 ≡ self.old.room }
+        ensures version { result ≡ length self.new.changes }
+    {
+        self.past = Past::with(&self.past, &change);
+        self.table.take(change);
+        self.version()
+    }
+
+    /// How many changes were accepted.
+    pub fn version(&self) -> u32
+        ensures version { result ≡ length self.now.changes }
+        ensures legal { histories.IsLegal (changes.history self.now.changes) }
+    {
+        self.table.slots.len() as u32
+    }
+
+    /// The sizes of the live filters together.
+    pub fn live_size(&self) -> u32
+        ensures { result ≡ histories.live_size (histories.live (changes.history self.now.changes)) }
+    {
+        self.table.live_size
+    }
+
+    pub fn is_live(&self, id: u32) -> bool
+        ensures { IsTrue result ↔ histories.IsLive id (histories.live (changes.history self.now.changes)) }
+    {
+        self.table.filter_of(id).is_some()
+    }
+
+    /// The size of a live filter.
+    pub fn size_of(&self, id: u32) -> u32
+        requires live { histories.IsLive id (histories.live (changes.history self.now.changes)) }
+        ensures { IfSome (find (histories.is_of id) (histories.live (changes.history self.now.changes))) (λ s. result ≡ histories.size s.filter) }
+    {
+        match self.table.filter_of(id) {
+            Some(filter) => size(filter),
+            None => unreachable!(),
+        }
+    }
+
+    /// Copies of the live filters in the order of their ids. It takes memory for each, and fails only
+    /// where that is refused.
+    pub fn snapshot(&self, alloc: Global) -> Result<Live, AllocError>
+        ensures live { IfOk result (λ live. subscriptions live ≡ histories.live (changes.history self.now.changes)) }
+    {
+        Ok(Live::of(copies(alloc, &self.table.slots)?))
+    }
+
+    /// Copies of the filters that would be live behind a change that may come next, in the order of
+    /// their ids. It takes memory for each, and fails only where that is refused.
+    pub fn snapshot_after(&self, alloc: Global, change: &Change) -> Result<Live, AllocError>
+        requires legal { histories.IsLegal (changes.history (self.now.changes ++ change.now ∷ [])) }
+        ensures live { IfOk result (λ live. subscriptions live ≡ histories.live (changes.history (self.now.changes ++ change.now ∷ []))) }
+    {
+        Ok(Live::of(copies_after(alloc, &self.table.slots, change)?))
+    }
+}
