@@ -1,13 +1,14 @@
 -- A reader goes on with the bytes that are kept beside it.
-use Rattle.std.proofs.Common.{◌≡◌, ℕ, List, ◌++◌, sym, ◌∙◌, Result, Ok, Err, ◌⊎◌, inl, inr}
+use Rattle.std.proofs.Common.{◌≡◌, ℕ, List, [], ◌++◌, append-nil, subst, sym, ◌∙◌, Result, Ok, Err, ◌⊎◌, inl, inr}
 use Rattle.std.specs.Result.{OnOk, IfErr}
 use Rattle.std.proofs.Math.Logic.{∥∥₁_map}
 use Rattle.px_reader.specs.declared.event.Event.{Event}
 use Rattle.px_reader.specs.declared.fault.ReaderFault.{ReaderFault}
+use Rattle.px_reader.specs.declared.fault.ReaderFault.TheVariants.{Doc, Memory}
 use Rattle.px_reader.specs.declared.reader.Reader.{Reader}
-use Rattle.px_reader.specs.Reading.{HasRead, HasFailed, ReadsPart, EndsWhole}
+use Rattle.px_reader.specs.Reading.{HasRead, HasFailed, ReadsPart, EndsWhole, IsFirstFault, IsLastFault}
 use Rattle.px_text.specs.Nodes.{Root}
-use Rattle.px_reader.specs.Verdicts.{HasVerdict, IsTree, SpellsTree}
+use Rattle.px_reader.specs.Verdicts.{HasVerdict, IsTree, IsFaulty, SpellsTree}
 use Rattle.px_feed.specs.Following.{Follows}
 
 -- a reader that has failed answers its fault
@@ -31,3 +32,8 @@ spelt_at_end old bytes before behind done result follows ok ends stays = ∥∥�
     on : ((given : List Event) × HasRead old bytes given) ⊎ ((fault : ReaderFault) × HasFailed old fault) → (root : Root) × HasVerdict bytes (IsTree root)
     on (inl (given, h)) = let t = ends bytes given h in (t.0, t.4)
     on (inr (fault, f)) = let wrong : Ok done ≡ Err fault = sym ok ∙ (stays fault f).0 in absurd (cc)
+
+-- a fault however the bytes go on is one of the bytes
+pub last_from_first : (bytes : List ℕ) (fault : ReaderFault) → IsFirstFault bytes fault → IsLastFault bytes fault
+last_from_first bytes (Doc fault) first = subst (λ bs. HasVerdict bs (IsFaulty fault.line fault.kind)) (append-nil bytes) (first [])
+last_from_first bytes Memory first = tt

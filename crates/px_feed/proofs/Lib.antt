@@ -1,2 +1,4 @@
 pub mod Gatherings
+pub mod Cuttings
 pub mod Generating
+pub mod Leading

@@ -1,46 +1,98 @@
 -- How lines are cut into items: what each line does, and what is known behind it.
-use Rattle.std.specs.Prelude.{◌≡◌, ℕ, ◌<◌, ◌≤◌, List, length, Result, Ok, Err, IsUtf8, if◌then◌else◌}
-use Rattle.px_text.specs.Names.{is_letter}
-use Rattle.px_reader.specs.Lines.{without_end}
-use Rattle.px_reader.specs.Verdicts.{HasVerdict, IsTree}
-use Rattle.px_reader.specs.Documents.{content}
-use Rattle.px_reader.specs.declared.fault.DocKind.TheVariants.{NotHere, NotUtf8, LineLong}
-use Rattle.px_feed.specs.declared.fault.Trouble.{Trouble}
-use Rattle.px_feed.specs.declared.fault.Trouble.TheVariants.{Kind, NoMemory}
+use Rattle.std.specs.Prelude.{◌≡◌, ℕ, ◌+◌, ◌<◌, ◌≤◌, true, List, [], ◌∷◌, ◌++◌, length, take, Result, Ok, Err, Option, Some, None}
+use Rattle.px_text.specs.Nodes.{Root}
+use Rattle.px_reader.specs.Lines.{lines_of, is_whole, has_no_feed}
+use Rattle.px_reader.specs.Spelling.{Spells}
+use Rattle.px_feed.specs.declared.cutter.Cutter.{Cutter}
+use Rattle.px_feed.specs.declared.fault.Failure.{Failure}
+use Rattle.px_feed.specs.declared.fault.Failure.TheVariants.{Fault, Memory}
+use Rattle.px_feed.specs.declared.gathering.Gathering.{Gathering}
 use Rattle.px_feed.specs.declared.item.Item.{Item as Given}
-use Rattle.px_feed.specs.declared.item.Item.TheVariants.{Add, Remove, Replace, Document}
 use Rattle.px_feed.specs.declared.outside.Effect.{Effect}
-use Rattle.px_feed.specs.declared.outside.Effect.TheVariants.{Nothing, Gives as GivesItem, Begins as BeginsDocument}
-use Rattle.px_feed.specs.Items.{Item, Adding, Removing, Replacing, Showing, Outside, Skips, Brings, Starts, Misplaced, outside}
+use Rattle.px_feed.specs.Effects.{IsItem, DoesFit}
+use Rattle.px_feed.specs.Gathered.{HasGathered}
+use Rattle.px_feed.specs.Items.{Item, Stop, AtEnd, AtFault, Begins, Gives, bytes_in, most_bytes}
 
--- the item of the program is this one of the feed
-abbrev pub IsItem : Given → Item → Type 0
-IsItem (Add text) (Adding t) = text ≡ t
-IsItem (Remove text) (Removing t) = text ≡ t
-IsItem (Replace id text) (Replacing i t) = (id ≡ i) × (text ≡ t)
-IsItem (Document doc) (Showing root) = HasVerdict (content doc) (IsTree root)
-IsItem _ _ = ⊥
+-- Whatever comes behind these lines, which gave these items, gives its own.
+abbrev pub Leads : (lines : List (List ℕ)) → List Item → Type 0
+Leads lines given =
+    (rest : List (List ℕ)) (items : List Item) (stop : Stop) → Gives lines rest items stop → Gives [] (lines ++ rest) (given ++ items) stop
 
--- this is what a line does, or it is misplaced
-abbrev pub Does : Result Effect Trouble → Outside → Type 0
-Does (Ok Nothing) Skips = Unit {0}
-Does (Ok (GivesItem item)) (Brings brought) = IsItem item brought
-Does (Ok BeginsDocument) Starts = Unit {0}
-Does (Err (Kind NotHere)) Misplaced = Unit {0}
-Does (Err NoMemory) _ = Unit {0}
-Does _ _ = ⊥
+-- Behind the lines before, which gave these items, a document has begun with the bytes inside; or none has, and they are none.
+pub record Stands (document : Gathering) (before : List (List ℕ)) (inside : List ℕ) (given : List Item) : Type 0 where
+  pub leads : Leads before given
+  pub whole : is_whole inside ≡ true
+  pub gathered : HasGathered document inside
+  pub begins : (line : List ℕ) (more : List (List ℕ)) → lines_of inside ≡ line ∷ more → Begins before line
+  pub still_open : (j : ℕ) (root : Root) → j ≤ length (lines_of inside) → Spells (take j (lines_of inside)) root → ⊥
 
--- what a line outside documents does whose first byte has no meaning of its own
-abbrev pub passed_by : ℕ → Outside
-passed_by first = if is_letter first then Skips else Misplaced
+-- These lines gave these items, and the document of the last of them is gathered.
+pub record Standing (document : Gathering) (lines : List (List ℕ)) (given : List Item) : Type 0 where
+  pub before : List (List ℕ)
+  pub inside : List ℕ
+  pub lines_are : lines ≡ before ++ lines_of inside
+  pub stands : Stands document before inside given
 
--- a line with its end is not too long, and is text
-abbrev pub IsFit : List ℕ → Type 0
-IsFit line = (length (without_end line) ≤ 1_048_576) × IsUtf8 line
+-- The cutter has taken these lines, which gave these items.
+pub record HasCut (cutter : Cutter) (lines : List (List ℕ)) (given : List Item) : Type 0 where
+  pub standing : Standing cutter.document lines given
+  pub counts : cutter.extent.lines ≡ length lines
+  pub sizes : cutter.extent.bytes ≡ bytes_in lines
 
--- this is what a line with its end does, or why it may not stand outside documents
-abbrev pub DoesFit : Result Effect Trouble → List ℕ → Type 0
-DoesFit (Ok effect) line = IsFit line × Does (Ok effect) (outside (without_end line))
-DoesFit (Err (Kind LineLong)) line = 1_048_576 < length (without_end line)
-DoesFit (Err (Kind NotUtf8)) line = (length (without_end line) ≤ 1_048_576) × (IsUtf8 line → ⊥)
-DoesFit (Err trouble) line = IsFit line × Does (Err trouble) (outside (without_end line))
+-- Behind these items the lines have this fault, whatever comes behind them.
+abbrev pub Fails : (lines : List (List ℕ)) → List Item → Failure → Type 0
+Fails lines given (Fault fault) = (rest : List (List ℕ)) → Gives [] (lines ++ rest) given (AtFault fault.line fault.kind)
+Fails lines given Memory = Unit {0}
+
+-- The lines gave these items and the one that is answered, if there is one; or they have the fault.
+abbrev pub Cuts : (Known : List Item → Type 0) → Result (Option Given) Failure → (lines : List (List ℕ)) → List Item → Type 0
+Cuts Known (Ok None) lines given = Known given
+Cuts Known (Ok (Some item)) lines given = (brought : Item) × IsItem item brought × Known (given ++ brought ∷ [])
+Cuts Known (Err failure) lines given = Fails lines given failure
+
+abbrev pub CutBy : Result (Option Given) Failure → Cutter → (lines : List (List ℕ)) → List Item → Type 0
+CutBy result new lines given = Cuts (HasCut new lines) result lines given
+
+abbrev pub CutTo : Result (Option Given) Failure → Cutter → (lines : List (List ℕ)) → List Item → Type 0
+CutTo result new lines given = Cuts (Standing new.document lines) result lines given
+
+-- A line may come behind the lines, and has the number that is counted.
+abbrev pub MayCome : Cutter → (lines : List (List ℕ)) → List ℕ → Type 0
+MayCome cutter lines line = (cutter.extent.lines ≡ length lines) × (bytes_in lines + length line ≤ most_bytes)
+
+-- what a line does, wherever it stands
+abbrev pub CutsLine : Cutter → List ℕ → Result (Option Given) Failure → Cutter → Type 0
+CutsLine old line result new =
+    (lines : List (List ℕ)) (given : List Item) → Standing old.document lines given → MayCome old lines line → CutTo result new (lines ++ line ∷ []) given
+
+-- what a line does that goes on with a document, or begins one
+abbrev pub CutsOn : Cutter → List ℕ → Result (Option Given) Failure → Cutter → Type 0
+CutsOn old line result new =
+    (before : List (List ℕ)) (inside : List ℕ) (given : List Item) → Stands old.document before inside given → (inside ≡ [] → Begins before line) →
+    MayCome old (before ++ lines_of inside) line → CutTo result new ((before ++ lines_of inside) ++ line ∷ []) given
+
+-- what a line outside documents does that has this effect
+abbrev pub CutsEffect : Cutter → Effect → List ℕ → Result (Option Given) Failure → Cutter → Type 0
+CutsEffect old effect line result new =
+    (before : List (List ℕ)) (given : List Item) → Stands old.document before [] given → DoesFit (Ok effect) line →
+    MayCome old before line → CutTo result new (before ++ line ∷ []) given
+
+-- The lines are all. They gave these items and the one that is answered, if there is one; or they have the fault.
+abbrev pub EndsBy : Result (Option Given) Failure → (lines : List (List ℕ)) → List Item → Type 0
+EndsBy (Ok None) lines given = Gives [] lines given AtEnd
+EndsBy (Ok (Some item)) lines given = (brought : Item) × IsItem item brought × Gives [] lines (given ++ brought ∷ []) AtEnd
+EndsBy (Err (Fault fault)) lines given = Gives [] lines given (AtFault fault.line fault.kind)
+EndsBy (Err Memory) lines given = Unit {0}
+
+-- what the end of a document does, with the bytes behind its last line feed
+abbrev pub EndsOn : Cutter → List ℕ → Result (Option Given) Failure → Type 0
+EndsOn old line result =
+    (before : List (List ℕ)) (inside : List ℕ) (given : List Item) → Stands old.document before inside given → has_no_feed line ≡ true →
+    (inside ≡ [] → (0 < length line) × Begins before line) →
+    MayCome old (before ++ lines_of inside) line → EndsBy result ((before ++ lines_of inside) ++ lines_of line) given
+
+-- what the last line does, where it stands outside documents and has this effect
+abbrev pub EndsEffect : Cutter → Effect → List ℕ → Result (Option Given) Failure → Type 0
+EndsEffect old effect line result =
+    (before : List (List ℕ)) (given : List Item) → Stands old.document before [] given → has_no_feed line ≡ true → 0 < length line →
+    DoesFit (Ok effect) line → MayCome old before line → EndsBy result (before ++ line ∷ []) given

@@ -33,10 +33,10 @@ IsClosed gathering = (bytes : List ℕ) → HasGathered gathering bytes → is_w
 abbrev pub IsStillOpen : Gathering → Type 0
 IsStillOpen gathering = (bytes : List ℕ) → HasGathered gathering bytes → is_whole bytes ≡ true → (root : Root) → Spells (lines_of bytes) root → ⊥
 
--- the lines are this document
-abbrev pub EndsWith : Gathering → Doc → Type 0
-EndsWith old doc = (bytes : List ℕ) → HasGathered old bytes → (content doc ≡ bytes) × ((root : Root) × HasVerdict bytes (IsTree root))
+-- the lines and the part behind them are this document
+abbrev pub EndsWith : Gathering → List ℕ → Doc → Type 0
+EndsWith old part doc = (bytes : List ℕ) → HasGathered old bytes → (content doc ≡ bytes ++ part) × ((root : Root) × HasVerdict (bytes ++ part) (IsTree root))
 
--- the fault is the verdict on the lines
-abbrev pub RefusesEnd : Gathering → ReaderFault → Type 0
-RefusesEnd old fault = (bytes : List ℕ) → HasGathered old bytes → IsLastFault bytes fault
+-- the fault is the verdict on the lines and the part behind them
+abbrev pub RefusesEnd : Gathering → List ℕ → ReaderFault → Type 0
+RefusesEnd old part fault = (bytes : List ℕ) → HasGathered old bytes → IsLastFault (bytes ++ part) fault

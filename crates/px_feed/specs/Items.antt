@@ -101,12 +101,12 @@ pub data Gives : (before lines : List (List ℕ)) → List Item → Stop → Typ
   brings : {before lines : List (List ℕ)} {line : List ℕ} {item : Item} {items : List Item} {stop : Stop} →
       HasNone (ShowsOutside before line) → outside (without_end line) ≡ Brings item →
       Gives (before ++ line ∷ []) lines items stop → Gives before (line ∷ lines) (item ∷ items) stop
-  misplaced : {before lines : List (List ℕ)} {line : List ℕ} {kind : FeedKind} →
+  outside_faulty : {before lines : List (List ℕ)} {line : List ℕ} {kind : FeedKind} →
       IsFirst (ShowsOutside before line) kind → Gives before (line ∷ lines) [] (AtFault (length before + 1) kind)
   document : {before document lines : List (List ℕ)} {line : List ℕ} {root : Root} {items : List Item} {stop : Stop} →
       Begins before line → IsWhole before (line ∷ document) root →
       Gives (before ++ line ∷ document) lines items stop → Gives before (line ∷ document ++ lines) (Showing root ∷ items) stop
-  faulty : {before lines : List (List ℕ)} {line : List ℕ} {kind : FeedKind} (k : ℕ) →
+  inside_faulty : {before lines : List (List ℕ)} {line : List ℕ} {kind : FeedKind} (k : ℕ) →
       Begins before line → k < length (line ∷ lines) → GoesOn before (line ∷ lines) k →
       IsFirst (ShowsInside before (line ∷ lines) k) kind → Gives before (line ∷ lines) [] (AtFault (length before + k + 1) kind)
   -- the number of all lines

@@ -4,8 +4,10 @@ pub mod Lines
 pub mod Matches
 pub mod Statuses
 pub mod Items
+pub mod Failures
 pub mod Following
 pub mod Gathered
+pub mod Effects
 pub mod Cutting
 pub mod Outputs
 pub mod Rows

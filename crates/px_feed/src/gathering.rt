@@ -60,6 +60,16 @@ impl Gathering {
         answer
     }
 
+    /// Adds the last line, without a line feed or none at all, and ends the document.
+    pub fn end_with(&mut self, line: &[u8]) -> Result<Doc, ReaderFault>
+        ensures whole { IfOk result (λ doc. EndsWith self.old line.now doc) }
+        ensures ready { OnOk result (HasGathered self.new []) }
+        ensures fault { IfErr result (λ fault. RefusesEnd self.old line.now fault) }
+    {
+        self.add(line)?;
+        self.end()
+    }
+
     /// Whether the root is closed, where the lines end with a line feed.
     pub fn is_closed(&self) -> bool
         ensures closed { IsTrue result → IsClosed self.now }
@@ -71,9 +81,9 @@ impl Gathering {
     /// The document that the lines are, if they are one. Then there are no lines again; after a
     /// fault no document comes.
     pub fn end(&mut self) -> Result<Doc, ReaderFault>
-        ensures whole { IfOk result (λ doc. EndsWith self.old doc) }
+        ensures whole { IfOk result (λ doc. EndsWith self.old [] doc) }
         ensures ready { OnOk result (HasGathered self.new []) }
-        ensures fault { IfErr result (λ fault. RefusesEnd self.old fault) }
+        ensures fault { IfErr result (λ fault. RefusesEnd self.old [] fault) }
     {
         self.reader.end(&mut self.events)?;
         self.events.clear();

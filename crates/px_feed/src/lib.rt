@@ -5,6 +5,8 @@
 //! a run of the program ends. [`generate`] gives feeds of any size, for trials.
 #![tactic(auto)]
 
+mod cutter;
+mod extent;
 mod fault;
 mod gathering;
 mod generator;

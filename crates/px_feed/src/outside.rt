@@ -5,7 +5,7 @@ ghost use Rattle.px_reader.specs.Lines.{all_white, line_of};
 ghost use Rattle.px_reader.specs.Lines.{without_end as content_of};
 ghost use Rattle.px_text.specs.Escapes.{unescaped};
 ghost use Rattle.px_feed.specs.Items.{Adding, Removing, Replacing, Brings, outside, of_kind};
-ghost use Rattle.px_feed.specs.Cutting.{Does, DoesFit, passed_by};
+ghost use Rattle.px_feed.specs.Effects.{Does, DoesFit, passed_by};
 
 use crate::fault::Trouble;
 use crate::item::Item;

@@ -11,18 +11,18 @@ lt_or_eq_or_gt : (m n : ℕ) → (m < n) ⊎ ((m ≡ n) ⊎ (n < m))
 lt_or_eq_or_gt m n = grind arith
 
 -- a fault by the parts of its judgement
-record Faulty (lines : List (List ℕ)) (line : ℕ) (kind : DocKind) : Type 0 where
-  k : ℕ
-  at : line ≡ k + 1
-  inside : k < length lines
-  before : (j : ℕ) → j < k → IsFine lines j
-  shows : Shows lines k kind
-  first : (other : DocKind) → rank other < rank kind → Shows lines k other → ⊥
+pub record Faulty (lines : List (List ℕ)) (line : ℕ) (kind : DocKind) : Type 0 where
+  pub k : ℕ
+  pub at : line ≡ k + 1
+  pub inside : k < length lines
+  pub before : (j : ℕ) → j < k → IsFine lines j
+  pub shows : Shows lines k kind
+  pub first : (other : DocKind) → rank other < rank kind → Shows lines k other → ⊥
 
-abbrev Ends : List (List ℕ) → ℕ → Type 0
+abbrev pub Ends : List (List ℕ) → ℕ → Type 0
 Ends lines line = ((k : ℕ) → k < length lines → IsFine lines k) × ((root : Root) → Spells lines root → ⊥) × (line ≡ length lines)
 
-split : (lines : List (List ℕ)) (line : ℕ) (kind : DocKind) → Judges lines (IsFaulty line kind) → Faulty lines line kind ⊎ ((kind ≡ Truncated) × Ends lines line)
+pub split : (lines : List (List ℕ)) (line : ℕ) (kind : DocKind) → Judges lines (IsFaulty line kind) → Faulty lines line kind ⊎ ((kind ≡ Truncated) × Ends lines line)
 split lines line Truncated j = inr (refl, j)
 split lines line NotHere (k, e, i, b, s, f) = inl (record { k = k; at = e; inside = i; before = b; shows = s; first = f })
 split lines line NotUtf8 (k, e, i, b, s, f) = inl (record { k = k; at = e; inside = i; before = b; shows = s; first = f })

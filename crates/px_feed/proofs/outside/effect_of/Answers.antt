@@ -4,7 +4,7 @@ use Rattle.std.proofs.lemmas.Bool.Decides.{eqb_tells}
 use Rattle.px_text.specs.Names.{is_letter, is_pyx_name}
 use Rattle.px_reader.specs.Lines.{Closes, Odd, Passed}
 use Rattle.px_feed.specs.Items.{Skips, Misplaced, outside, of_kind}
-use Rattle.px_feed.specs.Cutting.{Does, passed_by}
+use Rattle.px_feed.specs.Effects.{Does, passed_by}
 use Rattle.px_feed.proofs.outside.effect_of.Goals as goal
 
 other : (b n : ℕ) → (b ≡ n → ⊥) → (b == n) ≡ false

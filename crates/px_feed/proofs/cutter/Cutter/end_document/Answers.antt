@@ -1,0 +1,20 @@
+-- The document ends, or shows its fault.
+use Rattle.std.proofs.Common.{◌++◌, Err, sym, subst}
+use Rattle.px_reader.specs.Lines.{lines_of}
+use Rattle.px_feed.specs.Cutting.{EndsBy}
+use Rattle.px_feed.proofs.Cuttings.{ends_tree, ends_fault, all_lines}
+use Rattle.px_feed.proofs.cutter.Cutter.end_document.Goals as goal
+
+pub returns-in-Ok : goal.returns-in-Ok
+returns-in-Ok c = λ before inside given s no_feed may come.
+    let (same, (root, v)) = c.in-Ok.ensures.whole inside s.gathered in
+    ends_tree c.args.self.now.document before inside c.args.line.now given c.in-Ok.doc root s no_feed may come.1 v same
+
+pub returns-in-Err : goal.returns-in-Err
+returns-in-Err c = λ before inside given s no_feed may come.
+    let lines = before ++ lines_of inside in
+    let line = c.args.line.now in
+    let n = c.lines_with-number.result in
+    let count = all_lines lines line c.args.self.now.extent.lines n no_feed come.0 c.lines_with-number.ensures.none c.lines_with-number.ensures.some in
+    subst (λ failure. EndsBy (Err failure) (lines ++ lines_of line) given) (sym c.of_reader.ensures)
+    (ends_fault c.args.self.now.document before inside line given c.in-Err.fault n s no_feed may come.1 count (c.in-Err.ensures.fault inside s.gathered))
