@@ -4,6 +4,7 @@ pub mod Members
 pub mod Needed
 pub mod Found
 pub mod SameStates
+pub mod StateOrder
 pub mod Candidates
 pub mod Growing
 pub mod Right

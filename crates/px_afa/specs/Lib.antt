@@ -12,3 +12,4 @@ pub mod Steps
 pub mod Tables
 pub mod Sound
 pub mod Counts
+pub mod Numbering

@@ -10,6 +10,8 @@
 #![tactic(auto)]
 
 mod laws;
+mod builder;
+mod copies;
 mod program;
 mod state;
 
