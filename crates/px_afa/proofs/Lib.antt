@@ -16,3 +16,4 @@ pub mod Guards
 pub mod Sizes
 pub mod Soundness
 pub mod Counted
+pub mod Parts

@@ -13,3 +13,4 @@ pub mod Tables
 pub mod Sound
 pub mod Counts
 pub mod Numbering
+pub mod Ends
