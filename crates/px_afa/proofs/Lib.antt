@@ -17,3 +17,4 @@ pub mod Sizes
 pub mod Soundness
 pub mod Counted
 pub mod Parts
+pub mod Dictionaries

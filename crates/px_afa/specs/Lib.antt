@@ -14,3 +14,4 @@ pub mod Sound
 pub mod Counts
 pub mod Numbering
 pub mod Ends
+pub mod Dictionaries

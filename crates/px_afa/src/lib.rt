@@ -12,6 +12,7 @@
 mod laws;
 mod builder;
 mod copies;
+mod dictionary;
 mod filters;
 mod program;
 mod state;
