@@ -9,11 +9,11 @@
 //! them.
 #![tactic(auto)]
 
-mod laws;
 mod builder;
 mod copies;
 mod dictionary;
 mod filters;
+mod laws;
 mod program;
 mod state;
 
