@@ -1,0 +1,5 @@
+pub mod Parts
+pub mod RisingNumbers
+pub mod Unions
+pub mod Masks
+pub mod Popped
