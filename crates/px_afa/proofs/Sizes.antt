@@ -180,7 +180,7 @@ label-few names (ElementKind name) = place-few 1 3 names (ElementKind name) (ome
 label-few names (AttributeKind name) = place-few 2 3 names (AttributeKind name) (omega arith)
 label-few names TextKind = omega arith
 
-class-few : (i : ℕ) (literals : List (List ℕ)) (text : List ℕ) → 0 < i → class_of_text i literals text < i + length literals
+pub class-few : (i : ℕ) (literals : List (List ℕ)) (text : List ℕ) → 0 < i → class_of_text i literals text < i + length literals
 class-few i [] text h = omega arith
 class-few i (literal ∷ literals) text h = go (bytes_eq literal text) (class-few (suc i) literals text (omega arith))
   where
@@ -191,7 +191,7 @@ class-few i (literal ∷ literals) text h = go (bytes_eq literal text) (class-fe
 pub text_class-few : (states : List State) (text : List ℕ) → text_class states text ≤ length states
 text_class-few states text = let one = class-few 1 (literals_of states) text (omega arith) in let all = literals-few states in omega arith
 
-cut-few : (passed : ℕ) (constants : List ℤ) (cut : ℤ → Ordering) → cut_class passed constants cut ≤ passed + 2 * length constants + 1
+pub cut-few : (passed : ℕ) (constants : List ℤ) (cut : ℤ → Ordering) → cut_class passed constants cut ≤ passed + 2 * length constants + 1
 cut-few passed [] cut = omega arith
 cut-few passed (c ∷ constants) cut = go (cut c) (cut-few (suc (suc passed)) constants cut)
   where

@@ -3,3 +3,5 @@ pub mod Rows
 pub mod Gathered
 pub mod Pruning
 pub mod AcceptedIds
+pub mod Below
+pub mod Made

@@ -4,6 +4,7 @@
 mod held;
 mod laws;
 mod memo;
+mod ops;
 
 pub use held::Held;
 pub use laws::{accepted_are_matches, events_follow_content, pruning_changes_nothing};
