@@ -5,3 +5,4 @@ pub mod Pruning
 pub mod AcceptedIds
 pub mod Below
 pub mod Made
+pub mod Raised

@@ -1,5 +1,5 @@
 -- Steps of a memo at given operands, and one call after another.
-use Rattle.std.proofs.Common.{ℕ, List, [], ◌∷◌, IfOk, refl, sym, subst}
+use Rattle.std.proofs.Common.{ℕ, List, [], ◌∷◌, ◌++◌, IfOk, OnErr, refl, sym, ◌∙◌, subst, append_assoc}
 use Rattle.std.specs.Prelude.{Result, Ok, Err}
 use Rattle.px_text.specs.declared.op.Op.{Op}
 use Rattle.px_text.specs.Operands.{Operand, index, set_of}
@@ -8,9 +8,39 @@ use Rattle.px_afa.specs.Steps.{Step, step, answer_of, TakesOperands}
 use Rattle.px_runner.specs.declared.held.Held.{Held}
 use Rattle.px_runner.specs.declared.held.Held.TheVariants.{Plain}
 use Rattle.px_runner.specs.Operands.{AreStates, AreOfProgram, AreOperands}
-use Rattle.px_runner.specs.Memos.{Makes}
+use Rattle.px_runner.specs.Memos.{Keeps, Advances, Makes}
 use Rattle.px_runner.specs.Gives.{Holds, Gives}
 use Rattle.px_runner.proofs.Below.{answers-states}
+
+-- a memo that is kept, and kept again
+pub keeps_on : {M : Type 0} {states : M → List State} {stands_for : M → Held → List ℕ → Type 0} {a b c : M} →
+    Keeps states stands_for a b → Keeps states stands_for b c → Keeps states stands_for a c
+keeps_on f g = record { same = g.same ∙ f.same; stays = λ held set s. g.stays held set (f.stays held set s) }
+
+pub advances_on : {M : Type 0} {states : M → List State} {stands_for : M → Held → List ℕ → Type 0} {tells : M → List Step → List (List ℕ) → Type 0}
+    {a b c : M} {s t : List Step} {u v : List (List ℕ)} →
+    Advances states stands_for tells a b s u → Advances states stands_for tells b c t v → Advances states stands_for tells a c (s ++ t) (u ++ v)
+advances_on {M} {states} {stands_for} {tells} {a} {b} {c} {s} {t} {u} {v} f g = record {
+  keeps = keeps_on f.keeps g.keeps;
+  told = λ before held h. subst (λ l. tells c (before ++ (s ++ t)) l) (append_assoc held u v)
+      (subst (λ l. tells c l ((held ++ u) ++ v)) (append_assoc before s t) (g.told (before ++ s) (held ++ u) (f.told before held h)));
+}
+
+-- one call, and then another that gives the value
+pub gives_on : {M : Type 0} {states : M → List State} {stands_for : M → Held → List ℕ → Type 0} {tells : M → List Step → List (List ℕ) → Type 0}
+    {a b c : M} {held next : Held} {s t : List Step} {x y : List ℕ} →
+    Gives states stands_for tells a b held s x → Gives states stands_for tells b c next t y → Gives states stands_for tells a c next (s ++ t) y
+gives_on f g = record { advances = advances_on f.advances g.advances; holds = g.holds }
+
+pub holds_on : {M : Type 0} {states : M → List State} {stands_for : M → Held → List ℕ → Type 0} {a b : M} {held : Held} {set : List ℕ} →
+    Keeps states stands_for a b → Holds states stands_for a held set → Holds states stands_for b held set
+holds_on {M} {states} {stands_for} {a} {b} {held} {set} k h =
+    record { stands = k.stays held set h.stands; states_alone = subst (λ s. AreStates s set) (sym k.same) h.states_alone }
+
+pub err_on : {M A E : Type 0} (states : M → List State) (stands_for : M → Held → List ℕ → Type 0) (a b c : M) (r : Result A E) →
+    Keeps states stands_for a b → OnErr r (Keeps states stands_for b c) → OnErr r (Keeps states stands_for a c)
+err_on states stands_for a b c (Ok held) f h = h
+err_on states stands_for a b c (Err e) f h = keeps_on f h
 
 module _ {M : Type 0} (states : M → List State) (stands_for : M → Held → List ℕ → Type 0) (tells : M → List Step → List (List ℕ) → Type 0) where
   -- what a memo promises of a step

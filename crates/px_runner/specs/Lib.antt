@@ -2,3 +2,4 @@ pub mod Events
 pub mod Operands
 pub mod Memos
 pub mod Gives
+pub mod Frames

@@ -1,10 +1,12 @@
 //! The machine of all filters, in one pass over the events of a document.
 #![tactic(auto)]
 
+mod frame;
 mod held;
 mod laws;
 mod memo;
 mod ops;
+mod raise;
 
 pub use held::Held;
 pub use laws::{accepted_are_matches, events_follow_content, pruning_changes_nothing};

@@ -1,0 +1,74 @@
+//! What a child gives to its parent.
+
+ghost use Rattle.std.specs.Prelude.{◌≡◌, ℕ, List, [], ◌∷◌, ◌++◌, IfOk, OnOk, OnErr};
+ghost use Rattle.px_text.specs.declared.op.Op.TheVariants.{Add};
+ghost use Rattle.px_text.specs.Operands.{set_of};
+ghost use Rattle.px_afa.specs.Sets as sets;
+ghost use Rattle.px_afa.specs.Steps.{step, raise_steps};
+ghost use Rattle.px_runner.specs.Operands.{IsTextClass, IsNumberClass, IsLabel};
+ghost use Rattle.px_runner.specs.Memos.{Keeps, Advances};
+ghost use Rattle.px_runner.specs.Gives.{Holds, Gives, class_values, class_steps, raised};
+ghost use Rattle.px_runner.specs.Events.{Open, with_child};
+ghost use Rattle.px_runner.specs.Frames.{IsOpen};
+
+use crate::frame::Frame;
+use crate::held::Held;
+use crate::memo::Memo;
+use crate::ops::{add, mask, pop, value_number, value_text};
+use std::alloc::AllocError;
+
+/// The Value states that are true of texts of these classes.
+pub fn values<M: Memo>(memo: &mut M, text: u32, number: u32) -> Result<Held, AllocError>
+    requires text { IsTextClass (M.states memo.old) text }
+    requires number { IsNumberClass (M.states memo.old) number }
+    ensures ok { IfOk result (λ held. Gives M.states M.stands_for M.tells memo.old memo.new held
+        (class_steps (M.states memo.old) text number) (class_values (M.states memo.old) text number)) }
+    ensures err { OnErr result (Keeps M.states M.stands_for memo.old memo.new) }
+{
+    let text = value_text(memo, text)?;
+    let number = value_number(memo, number)?;
+    add(memo, &text, &number)
+}
+
+/// What has been gathered after a child with the label and the set, of which only the needed states
+/// are kept.
+pub fn raise<M: Memo>(
+    memo: &mut M,
+    needed: &Held,
+    gathered: &Held,
+    set: &Held,
+    label: u32,
+) -> Result<Held, AllocError>
+    requires sets { (n a s : List ℕ) × Holds M.states M.stands_for memo.old needed.now n × Holds M.states M.stands_for memo.old gathered.now a × Holds M.states M.stands_for memo.old set.now s }
+    requires label { IsLabel (M.states memo.old) label }
+    ensures ok { IfOk result (λ held. (n a s : List ℕ) →
+        Holds M.states M.stands_for memo.old needed.now n → Holds M.states M.stands_for memo.old gathered.now a → Holds M.states M.stands_for memo.old set.now s →
+        Gives M.states M.stands_for M.tells memo.old memo.new held (raise_steps (M.states memo.old) n a s label) (raised (M.states memo.old) n a s label)) }
+    ensures err { OnErr result (Keeps M.states M.stands_for memo.old memo.new) }
+{
+    let popped = pop(memo, set, label)?;
+    let masked = mask(memo, &popped, needed)?;
+    add(memo, gathered, &masked)
+}
+
+/// Gives a child's set to an open element.
+pub fn give<M: Memo>(
+    memo: &mut M,
+    frame: &mut Frame,
+    set: &Held,
+    label: u32,
+) -> Result<(), AllocError>
+    requires frame { (o : Open) × IsOpen M.states M.stands_for memo.old frame.old o }
+    requires set { (s : List ℕ) × Holds M.states M.stands_for memo.old set.now s }
+    requires label { IsLabel (M.states memo.old) label }
+    ensures ok { OnOk result ((o : Open) (s text : List ℕ) →
+        IsOpen M.states M.stands_for memo.old frame.old o → Holds M.states M.stands_for memo.old set.now s →
+        IsOpen M.states M.stands_for memo.new frame.new (with_child (M.states memo.old) o s label text)
+        × Advances M.states M.stands_for M.tells memo.old memo.new (raise_steps (M.states memo.old) o.needed o.gathered s label) []) }
+    ensures begins { OnOk result (frame.new.begins ≡ frame.old.begins) }
+    ensures err { OnErr result (Keeps M.states M.stands_for memo.old memo.new) }
+{
+    let gathered = raise(memo, &frame.needed, &frame.gathered, set, label)?;
+    frame.gathered = gathered;
+    Ok(())
+}
