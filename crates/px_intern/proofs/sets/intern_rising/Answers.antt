@@ -27,6 +27,9 @@ next xs left rise some_left low =
     let r = rising_at xs (left - 1) 0 rise (omega arith) in
     (r.0, subst (λ (n : ℕ). Above (slice_index_or xs (left - 1) 0) (drop n xs)) i r.1, r.2 ∙ ap (λ (n : ℕ). slice_index_or xs (left - 1) 0 ∷ drop n xs) i)
 
+small_at : (xs : List ℕ) (i : ℕ) → Rising xs → i < length xs → Small (slice_index_or xs i 0)
+small_at xs i rise low = (rising_at xs i 0 rise low).0
+
 down : (a b c l n : ℕ) → b ≤ a + 128 * (n - l) → c ≤ b + 128 → 0 < l → l ≤ n → c ≤ a + 128 * (n - (l - 1))
 down a b c l n h t p low = omega arith
 
@@ -45,7 +48,11 @@ module _ {E : Type 0} (right : List E → Op → Operand → Operand → List �
   suffix_new w x i e t es word from names is f h = (h.0, h.1, record { front = take i x; element = e; rest = es; tail = t; suffix = split x i e es from; told = named t es names; word = h.2 ∙ is })
 
 pub node_word-word-requires : goal.node_word-word-requires
-node_word-word-requires g c = let i = c.loop-left.invariant in record { fields = ((next c.args.elements.now c.loop-left.left c.requires.set c.loop-left-test.true i.2).0, i.3) }
+node_word-word-requires g c =
+    let i = c.loop-left.invariant in
+    let low : c.loop-left.left ≤ length c.args.elements.now = i.2 in
+    let some_left : 0 < c.loop-left.left = c.loop-left-test.true in
+    record { fields = (small_at c.args.elements.now _ c.requires.set (omega arith), i.3) }
 
 pub seek-requires-clause-table : goal.seek-requires-clause-table
 seek-requires-clause-table g c = c.loop-left.invariant.0 ∙ c.requires.table
