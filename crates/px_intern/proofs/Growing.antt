@@ -1,26 +1,25 @@
--- What a view goes on telling when it grows.
-use Rattle.std.proofs.Common.{◌≡◌, ◌≢◌, ℕ, zero, suc, ◌+◌, ◌*◌, ◌-◌, ◌/◌, ◌%◌, ◌<◌, ◌≤◌, Bool, true, false, cond, eqb, List, [], ◌∷◌, ◌++◌, length, take, refl, sym, ap, ◌∙◌, subst, arith, eq-eqb, ne_eqb, drop, get_or}
-use Rattle.std.proofs.lemmas.List.{append_assoc}
+-- Which words may be put where, and what words that were found are.
+use Rattle.std.proofs.Common.{◌≡◌, ◌≢◌, ℕ, zero, suc, ◌+◌, ◌*◌, ◌/◌, ◌%◌, ◌<◌, ◌≤◌, Bool, true, false, cond, List, [], ◌∷◌, length, take, refl, sym, ap, ◌∙◌, subst, arith, eq-eqb, ne_eqb, drop, get_or}
 use mathlib.Core.Logic.{dite}
-use mathlib.Core.Option.{some}
 use native.Mathlib.Decide.{dec_lt}
 use lib.ListN.{get_elem?}
 use Rattle.px_text.specs.declared.op.Op.{Op}
 use Rattle.px_rule.specs.declared.shape.Shape.{Shape}
 use Rattle.px_rule.specs.declared.view.View.{View}
-use Rattle.px_rule.specs.declared.view.Found.{Found}
 use Rattle.px_rule.specs.declared.view.Stay.{Stay}
 use Rattle.px_text.specs.Operands.{Operand, set_of, first_is_set, second_is_set}
 use Rattle.px_rule.specs.Kinds.{kind_of}
 use Rattle.px_rule.specs.Words.{Small, node_word, step_word, key_of, is_node, IsShape, nodes_of, steps_of, size_of, path_of, long_of}
-use Rattle.px_rule.specs.RightBanks.{SetAt, Means, as_index, as_set}
+use Rattle.px_rule.specs.RightBanks.{SetAt, Means}
 use Rattle.px_text.specs.Sets.{Above, Rising}
-use Rattle.px_rule.specs.Known.{found, Has, KeptSet, Stands, plain, named, answered, MayPut}
+use Rattle.px_rule.specs.Known.{found, KeptSet, named, MayPut}
 use Rattle.px_rule.specs.Steps.{Looked, Written, Shown}
 use Rattle.px_rule.specs.Table.{is_inside, bank_in, version_in}
 use Rattle.px_rule.proofs.Known.{kind_within, same_step, means_one, stands_sound}
-use Rattle.px_rule.proofs.Paths.{nodes_wide, node_is_node, node_path, step_path}
-use Rattle.px_intern.specs.Kept.{Grew, KeptAt, Tells, AsNode, AsStep, Proper, PassedBy}
+use Rattle.px_rule.proofs.Paths.{node_path, step_path}
+use Rattle.px_rule.specs.Kept.{Grew, KeptAt, Tells, PassedBy}
+use Rattle.px_intern.specs.Proper.{AsNode, AsStep, Proper}
+use Rattle.px_rule.proofs.Lasting.{names_in, stands_grew}
 use Rattle.px_intern.specs.Answers.{Names}
 
 key_of_fields : (kind a b r : ℕ) → Small a → Small b → Small r → key_of (kind * 1152921504606846976 + a * 1099511627776 + b * 1048576 + r) ≡ kind * 1152921504606846976 + a * 1099511627776 + b * 1048576 + 0
@@ -42,95 +41,9 @@ some_fields kind a b r big none = omega arith
 step_some : (op : Op) (a b r : ℕ) → step_word op a b r ≢ 0
 step_some op a b r = some_fields (kind_of op) a b r (kind_within op).0
 
-abbrev set_in : Operand → List ℕ
-set_in (set_of x) = x
-set_in _ = []
-
-names_at : {nodes : ℕ} {m : ℕ → ℕ} {t : Bool} {s : ℕ} {o : Operand} → t ≡ true → Means nodes m t s o → SetAt nodes m s (set_in o)
-names_at e (as_index _) = absurd (cc)
-names_at e (as_set _ x h) = h
-
--- a number that means a set names it
-pub names_in : {nodes : ℕ} {m : ℕ → ℕ} {s : ℕ} {x : List ℕ} → Means nodes m true s (set_of x) → SetAt nodes m s x
-names_in h = names_at refl h
-
-pub at_more : {A : Type 0} (more xs : List A) (i : ℕ) (a : A) → get_elem? xs i ≡ some a → (j : ℕ) × (get_elem? (more ++ xs) j ≡ some a)
-at_more [] xs i a e = (i, e)
-at_more (m ∷ ms) xs i a e = let r = at_more ms xs i a e in (suc r.0, r.1)
-
-module _ (nodes : ℕ) (right : Op → Operand → Operand → List ℕ → Type 0) (more kept : List Found) (k n : ℕ) where
-  has_more : (p w : ℕ) → Has nodes right kept k n p w → Has nodes right (more ++ kept) k n p w
-  has_more p w h = at_more more kept h.0 (found k n p w) h.1
-
-  names_more : (s : ℕ) (x : List ℕ) → KeptSet nodes right kept k n s x → KeptSet nodes right (more ++ kept) k n s x
-  names_more s [] h = h
-  names_more s (e ∷ es) h = (h.0, h.1, h.2, h.3, h.4, has_more s (node_word e h.0) h.5, h.6, names_more h.0 es h.7)
-
-  pub stands_more : (t : Bool) (a : ℕ) (o : Operand) → Stands nodes right kept k n t a o → Stands nodes right (more ++ kept) k n t a o
-  stands_more t a o (plain _) = plain a
-  stands_more t a o (named _ x h) = named a x (names_more a x h)
-  stands_more t s o (answered p op a b _ first second x fits has is_a is_b is_right) =
-      answered p op a b s first second x fits (has_more p _ has) (stands_more (first_is_set op) a first is_a) (stands_more (second_is_set op) b second is_b) is_right
-
-module _ {E : Type 0} where
-  pub grew_look : (k n p x : ℕ) (v w : View E) → Looked k n p v x w → Grew v w
-  grew_look k n p x v w e = record {
-    past = ap (λ (u : View E). u.past) e;
-    stay = ap (λ (u : View E). u.stay) e;
-    more = cond (eqb x 0) [] (found k n p x ∷ []);
-    kept = ap (λ (u : View E). u.touch.kept) e ∙ elim (eqb x 0) as (λ t. cond t v.touch.kept (found k n p x ∷ v.touch.kept) ≡ cond t [] (found k n p x ∷ []) ++ v.touch.kept) [ true ↦ refl | false ↦ refl ];
-    touched = (let h : w.touch.touches ≡ v.touch.touches + 1 = ap (λ (u : View E). u.touch.touches) e in let a : ℕ = v.touch.touches in let b : ℕ = w.touch.touches in let h' : b ≡ a + 1 = h in let r : a ≤ b = omega arith in r);
-    more_gaps = cond (eqb x 0) (record { bank = k; version = n; place = p; touches = v.touch.touches + 1 } ∷ []) [];
-    gaps = ap (λ (u : View E). u.touch.gaps) e
-        ∙ elim (eqb x 0) as (λ t. cond t (record { bank = k; version = n; place = p; touches = v.touch.touches + 1 } ∷ v.touch.gaps) v.touch.gaps ≡ cond t (record { bank = k; version = n; place = p; touches = v.touch.touches + 1 } ∷ []) [] ++ v.touch.gaps) [ true ↦ refl | false ↦ refl ];
-  }
-
-  pub grew_write : (k n p word x : ℕ) (v w : View E) → Written k n p word v x w → Grew v w
-  grew_write k n p word x v w e = record {
-    past = ap (λ (u : View E). u.past) e;
-    stay = ap (λ (u : View E). u.stay) e;
-    more = cond (eqb x 0) (found k n p word ∷ []) (found k n p x ∷ []);
-    kept = ap (λ (u : View E). u.touch.kept) e
-        ∙ elim (eqb x 0) as (λ t. cond t (found k n p word ∷ v.touch.kept) (found k n p x ∷ v.touch.kept) ≡ cond t (found k n p word ∷ []) (found k n p x ∷ []) ++ v.touch.kept) [ true ↦ refl | false ↦ refl ];
-    touched = (let h : w.touch.touches ≡ v.touch.touches + 1 = ap (λ (u : View E). u.touch.touches) e in let a : ℕ = v.touch.touches in let b : ℕ = w.touch.touches in let h' : b ≡ a + 1 = h in let r : a ≤ b = omega arith in r);
-    more_gaps = [];
-    gaps = ap (λ (u : View E). u.touch.gaps) e;
-  }
-
-  pub grew_same : (v : View E) → Grew v v
-  grew_same v = record { past = refl; stay = refl; more = []; kept = refl; touched = omega arith; more_gaps = []; gaps = refl }
-
-  pub grew_trans : (u v w : View E) → Grew u v → Grew v w → Grew u w
-  grew_trans u v w a b = record {
-    past = b.past ∙ a.past;
-    stay = b.stay ∙ a.stay;
-    more = b.more ++ a.more;
-    kept = b.kept ∙ (ap (λ l. b.more ++ l) a.kept ∙ sym (append_assoc b.more a.more u.touch.kept));
-    touched = (let p : ℕ = u.touch.touches in let q : ℕ = v.touch.touches in let r : ℕ = w.touch.touches in let l : p ≤ q = a.touched in let m : q ≤ r = b.touched in let x : p ≤ r = omega arith in x);
-    more_gaps = b.more_gaps ++ a.more_gaps;
-    gaps = b.gaps ∙ (ap (λ l. b.more_gaps ++ l) a.gaps ∙ sym (append_assoc b.more_gaps a.more_gaps u.touch.gaps));
-  }
-
-  pub kept_grew : (k n p x : ℕ) (v w : View E) → Grew v w → KeptAt k n p x v → KeptAt k n p x w
-  kept_grew k n p x v w g h = let r = at_more g.more v.touch.kept h.0 (found k n p x) h.1 in (r.0, ap (λ l. get_elem? l r.0) g.kept ∙ r.1)
-
-module _ {E : Type 0} where
-  pub kept_look : (k n p x : ℕ) (v w : View E) → Looked k n p v x w → x ≢ 0 → KeptAt k n p x w
-  kept_look k n p x v w e some_word = (0, ap (λ (u : View E). get_elem? u.touch.kept 0) e ∙ ap (λ (t : Bool). get_elem? (cond t v.touch.kept (found k n p x ∷ v.touch.kept)) 0) (ne_eqb x 0 some_word))
-
-  pub gap_look : (k n p x : ℕ) (v w : View E) → Looked k n p v x w → x ≡ 0 → get_elem? w.touch.gaps 0 ≡ some (record { bank = k; version = n; place = p; touches = w.touch.touches })
-  gap_look k n p x v w e none =
-      ap (λ (u : View E). get_elem? u.touch.gaps 0) e
-      ∙ (ap (λ (t : Bool). get_elem? (cond t (record { bank = k; version = n; place = p; touches = v.touch.touches + 1 } ∷ v.touch.gaps) v.touch.gaps) 0) (eq-eqb x 0 none)
-      ∙ ap (λ (u : View E). some (record { bank = k; version = n; place = p; touches = u.touch.touches })) (sym e))
-
 module _ {E : Type 0} (right : List E → Op → Operand → Operand → List ℕ → Type 0) (z : Shape) where
-  pub stands_grew : (k n : ℕ) (v w : View E) → Grew v w → (t : Bool) (a : ℕ) (o : Operand) → Stands (nodes_of z) (right (take n v.past.seen)) v.touch.kept k n t a o → Stands (nodes_of z) (right (take n w.past.seen)) w.touch.kept k n t a o
-  stands_grew k n v w g t a o h =
-      subst (λ (x : List E × List Found). Stands (nodes_of z) (right (take n x.0)) x.1 k n t a o) (λ i. (sym (ap (λ p. p.seen) g.past) i, sym g.kept i)) (stands_more (nodes_of z) (right (take n v.past.seen)) g.more v.touch.kept k n t a o h)
-
   pub proper_grew : (k n : ℕ) (v w : View E) (word : ℕ) → Grew v w → Proper right z k n v word → Proper right z k n w word
-  proper_grew k n v w word g p = let S = stands_grew k n v w g in record {
+  proper_grew k n v w word g p = let S = stands_grew right z k n v w g in record {
     some_word = p.some_word;
     as_node = λ i l m. let x = p.as_node i l m in (x.0, x.1, x.2, x.3, x.4, x.5, x.6, x.7, S true x.1 (set_of x.2) x.8);
     as_step = λ i l m. let x = p.as_step i l m in (
@@ -151,13 +64,6 @@ module _ {E : Type 0} (right : List E → Op → Operand → Operand → List �
       subst (λ l. right (take n l) x.0 x.4 x.5 x.6) (sym (ap (λ p. p.seen) g.past)) x.14,
     );
   }
-
-  pub passed_grew : (k n word turns : ℕ) (v w : View E) → Grew v w → PassedBy z k n word turns v → PassedBy z k n word turns w
-  passed_grew k n word turns v w g h j l = let x = h j l in (x.0, kept_grew k n (path_of z (key_of word) j) x.0 v w g x.1, x.2)
-
-  pub passed_more : (k n word turns : ℕ) (v : View E) (x p : ℕ) → PassedBy z k n word turns v → p ≡ path_of z (key_of word) turns → KeptAt k n p x v → key_of x ≢ key_of word → PassedBy z k n word (turns + 1) v
-  passed_more k n word turns v x p h at kept other j l = dite (dec_lt j turns) (λ low. h j low)
-      (λ high. let e : turns ≡ j = omega arith in (x, subst (λ (q : ℕ). KeptAt k n q x v) (at ∙ ap (path_of z (key_of word)) e) kept, other))
 
   pub may_put : (k n word turn p : ℕ) (v : View E) → Proper right z k n v word → PassedBy z k n word turn v → turn < long_of z (key_of word) → p ≡ path_of z (key_of word) turn → p < size_of z
       → MayPut (nodes_of z) (steps_of z) (path_of z) (long_of z) (right (take n v.past.seen)) v.touch.kept k n p word
@@ -191,10 +97,6 @@ module _ {E : Type 0} (right : List E → Op → Operand → Operand → List �
         as_node = λ i l m. (e, t, es, (node_path z (key_of w) i shape is).0, se, st, refl, above, named t es names);
         as_step = λ i l m. absurd (let q : ℕ = nodes_of z in let p : ℕ = path_of z (key_of w) i in let a : p < q = (node_path z (key_of w) i shape is).1 in let h : q ≤ p = m in omega arith);
       }
-
-  pub names_grew : (k n s : ℕ) (x : List ℕ) (v w : View E) → Grew v w → KeptSet (nodes_of z) (right (take n v.past.seen)) v.touch.kept k n s x → KeptSet (nodes_of z) (right (take n w.past.seen)) w.touch.kept k n s x
-  names_grew k n s x v w g h =
-      subst (λ (y : List E × List Found). KeptSet (nodes_of z) (right (take n y.0)) y.1 k n s x) (λ i. (sym (ap (λ p. p.seen) g.past) i, sym g.kept i)) (names_more (nodes_of z) (right (take n v.past.seen)) g.more v.touch.kept k n s x h)
 
   -- a step word of the key has the same result
   pub same_result : (k n p x : ℕ) (v : View E) (word : ℕ) → ((op : Op) (a b : Operand) (x y : List ℕ) → right (take n v.past.seen) op a b x → right (take n v.past.seen) op a b y → x ≡ y)
@@ -299,13 +201,6 @@ module _ {E : Type 0} (right : List E → Op → Operand → Operand → List �
   found_same k n word turn p x v shape one low at within is shown some_word key = by_bool (is_node (key_of word))
       (λ node. same_zeros x word key (ends_in_zeros right z k n p x v (node_at right z word turn p shape at node).1 some_word shown) (own_zeros right z k n word turn v shape low is node))
       (λ no_node. found_step right z k n word turn p x v shape one low at within no_node is shown some_word key)
-
-module _ {E : Type 0} where
-  pub kept_write : (k n p word x : ℕ) (v w : View E) → Written k n p word v x w → x ≡ 0 → KeptAt k n p word w
-  kept_write k n p word x v w e none = (0, ap (λ (u : View E). get_elem? u.touch.kept 0) e ∙ ap (λ (t : Bool). get_elem? (cond t (found k n p word ∷ v.touch.kept) (found k n p x ∷ v.touch.kept)) 0) (eq-eqb x 0 none))
-
-  pub kept_write_other : (k n p word x : ℕ) (v w : View E) → Written k n p word v x w → x ≢ 0 → KeptAt k n p x w
-  kept_write_other k n p word x v w e some_word = (0, ap (λ (u : View E). get_elem? u.touch.kept 0) e ∙ ap (λ (t : Bool). get_elem? (cond t (found k n p word ∷ v.touch.kept) (found k n p x ∷ v.touch.kept)) 0) (ne_eqb x 0 some_word))
 
 -- an element of a rising list
 pub rising_at : (xs : List ℕ) (i d : ℕ) → Rising xs → i < length xs → Small (get_or xs i d) × Above (get_or xs i d) (drop (suc i) xs) × (drop i xs ≡ get_or xs i d ∷ drop (suc i) xs)

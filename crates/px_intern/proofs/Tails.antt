@@ -1,5 +1,5 @@
 -- A set is read from its number, node by node.
-use Rattle.std.proofs.Common.{◌≡◌, ◌≢◌, ℕ, ◌+◌, ◌-◌, ◌*◌, ◌/◌, ◌%◌, ◌<◌, ◌≤◌, true, List, [], ◌∷◌, ◌++◌, length, take, refl, sym, ap, ◌∙◌, subst, arith}
+use Rattle.std.proofs.Common.{◌≡◌, ◌≢◌, ℕ, ◌+◌, ◌/◌, ◌%◌, ◌<◌, ◌≤◌, true, List, [], ◌∷◌, length, take, refl, sym, ap, ◌∙◌, subst, arith}
 use Rattle.px_text.specs.declared.op.Op.{Op}
 use Rattle.px_rule.specs.declared.shape.Shape.{Shape}
 use Rattle.px_rule.specs.declared.view.View.{View}
@@ -11,8 +11,8 @@ use Rattle.px_rule.specs.Known.{Agrees}
 use Rattle.px_rule.specs.Steps.{Looked, Shown}
 use Rattle.px_rule.proofs.Known.{stands_sound}
 use Rattle.px_rule.proofs.RightBanks.{one_set}
-use Rattle.px_intern.specs.Kept.{Grew, Tells, Sound}
-use Rattle.px_intern.proofs.Growing.{names_in, grew_look, kept_grew, kept_look}
+use Rattle.px_rule.specs.Kept.{Grew, Tells, Sound}
+use Rattle.px_rule.proofs.Lasting.{names_in, grew_look, kept_grew, kept_look}
 
 abbrev pub element : ℕ → ℕ
 element x = x / 1099511627776 % 1048576

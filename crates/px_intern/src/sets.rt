@@ -2,7 +2,7 @@
 ghost use Rattle.std.specs.Prelude.{◌≡◌, ◌+◌, ◌*◌, ◌/◌, ◌%◌, ◌≤◌, ℕ, true, length, List, IfOk};
 ghost use Rattle.px_text.specs.Sets.{Rising};
 ghost use Rattle.px_rule.specs.Table.{is_inside};
-ghost use Rattle.px_intern.specs.Kept.{Grew};
+ghost use Rattle.px_rule.specs.Kept.{Grew};
 ghost use Rattle.px_intern.specs.Answers.{IsSound, Names, StaysSound, WroteNodes, Interns};
 
 use crate::answers::{Intern, Sought};

@@ -2,8 +2,8 @@
 ghost use Rattle.std.specs.Prelude.{◌≡◌, ◌+◌, ◌<◌, ◌≤◌, true};
 ghost use Rattle.px_rule.specs.Words.{step_word as word_of_step};
 ghost use Rattle.px_rule.specs.Table.{is_inside};
-ghost use Rattle.px_intern.specs.Kept.{Grew};
-ghost use Rattle.px_intern.specs.Answers.{StaysSound, Finds, IsRightStep, WroteOnly, Puts};
+ghost use Rattle.px_rule.specs.Kept.{Grew};
+ghost use Rattle.px_intern.specs.Answers.{IsSound, Finds, IsRightStep, WroteOnly, Puts};
 
 use crate::answers::{Find, Put, Sought};
 use crate::paths::{place_in, turns};
@@ -18,7 +18,7 @@ pub fn find<L: Law>(shared: &Shared<L>, seat: &mut Seat<L>, op: Op, a: u32, b: u
     requires fields { (a < 1048576) × (b < 1048576) }
     ensures table { seat.new.table ≡ seat.old.table }
     ensures grew { Grew seat.old.view seat.new.view }
-    ensures sound { StaysSound L.right shared.now.shape seat.old.view seat.new.view }
+    ensures sound { IsSound L.right shared.now.shape seat.new.view }
     ensures wrote_none { seat.new.view.touch.wrote ≡ seat.old.view.touch.wrote }
     ensures touched { (seat.old.view.touch.touches < seat.new.view.touch.touches) × (seat.new.view.touch.touches ≤ seat.old.view.touch.touches + 64) }
     ensures answer { Finds L.right shared.now.shape op a b seat.old.view seat.new.view result }
@@ -45,7 +45,7 @@ pub fn put<L: Law>(shared: &Shared<L>, seat: &mut Seat<L>, op: Op, a: u32, b: u3
     requires step { IsRightStep L.right shared.now.shape seat.old.view op a b r }
     ensures table { seat.new.table ≡ seat.old.table }
     ensures grew { Grew seat.old.view seat.new.view }
-    ensures sound { StaysSound L.right shared.now.shape seat.old.view seat.new.view }
+    ensures sound { IsSound L.right shared.now.shape seat.new.view }
     ensures wrote { WroteOnly (word_of_step op a b r) seat.old.view seat.new.view }
     ensures touched { seat.new.view.touch.touches ≤ seat.old.view.touch.touches + 128 }
     ensures answer { Puts shared.now.shape (word_of_step op a b r) seat.old.view seat.new.view result }

@@ -2,8 +2,8 @@
 ghost use Rattle.std.specs.Prelude.{◌≡◌, ◌+◌, ◌<◌, ◌≤◌, true};
 ghost use Rattle.px_rule.specs.Words.{key_of, IsShape, long_of};
 ghost use Rattle.px_rule.specs.Table.{is_inside};
-ghost use Rattle.px_intern.specs.Kept.{Grew};
-ghost use Rattle.px_intern.specs.Answers.{StaysSound, IsProper, IsPassed, WroteOnly, TryGives, SeekGives};
+ghost use Rattle.px_rule.specs.Kept.{Grew};
+ghost use Rattle.px_intern.specs.Answers.{IsSound, IsProper, IsPassed, WroteOnly, TryGives, SeekGives};
 
 use crate::answers::Sought;
 use crate::paths::{place_in, turns};
@@ -18,7 +18,7 @@ fn try_turn<L: Law>(shared: &Shared<L>, seat: &mut Seat<L>, word: u64, turn: u32
     requires passed { IsPassed shared.now.shape word turn seat.old.view }
     ensures table { seat.new.table ≡ seat.old.table }
     ensures grew { Grew seat.old.view seat.new.view }
-    ensures sound { StaysSound L.right shared.now.shape seat.old.view seat.new.view }
+    ensures sound { IsSound L.right shared.now.shape seat.new.view }
     ensures wrote { WroteOnly word seat.old.view seat.new.view }
     ensures touched { seat.new.view.touch.touches ≤ seat.old.view.touch.touches + 2 }
     ensures found { TryGives shared.now.shape word turn seat.old.view seat.new.view result.0 result.1 }
@@ -39,7 +39,7 @@ pub(crate) fn seek<L: Law>(shared: &Shared<L>, seat: &mut Seat<L>, word: u64) ->
     requires word { IsProper L.right shared.now.shape seat.old.view word }
     ensures table { seat.new.table ≡ seat.old.table }
     ensures grew { Grew seat.old.view seat.new.view }
-    ensures sound { StaysSound L.right shared.now.shape seat.old.view seat.new.view }
+    ensures sound { IsSound L.right shared.now.shape seat.new.view }
     ensures wrote { WroteOnly word seat.old.view seat.new.view }
     ensures touched { seat.new.view.touch.touches ≤ seat.old.view.touch.touches + 128 }
     ensures shape { IsShape shared.now.shape }

@@ -19,3 +19,6 @@ pub mod Bounds
 pub mod Opening
 pub mod Paths
 pub mod Seats
+pub mod Lasting
+pub mod Sounds
+pub mod Apart

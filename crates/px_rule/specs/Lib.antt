@@ -8,5 +8,6 @@ pub mod Places
 pub mod Rule
 pub mod Steps
 pub mod Clauses
+pub mod Kept
 pub mod Table
 pub mod Rows

@@ -8,6 +8,7 @@ ghost use Rattle.px_rule.specs.declared.view.Stand.{Stand};
 ghost use Rattle.px_rule.specs.Words.{size_of};
 ghost use Rattle.px_rule.specs.Rule.{is_pass};
 ghost use Rattle.px_rule.specs.Steps.{Enters, Leaves, Claims, Zeroed, Published, Looked, Written, Shown, MayWrite};
+ghost use Rattle.px_rule.specs.Kept.{Sound};
 ghost use Rattle.px_rule.specs.Table.{is_in, is_inside, bank_in, version_in};
 
 use crate::law::Law;
@@ -79,7 +80,7 @@ impl<L: Law> Shared<L> {
         self.table.publish::<Brand>(&mut desk.token, bank)
     }
 
-    /// Reads a place of the bank that the pass is inside, and answers its word.
+    /// Reads a place of the bank that the pass is inside, and answers its word. It tells that all that the pass keeps of the bank stands in one right bank.
     pub fn look_step(&self, seat: &mut Seat<L>, place: u32) -> u64
         requires table { seat.old.table ≡ self.now }
         requires inside { is_inside seat.old.view.stay.place ≡ true }
@@ -87,12 +88,13 @@ impl<L: Law> Shared<L> {
         ensures table { seat.new.table ≡ seat.old.table }
         ensures view { Looked (bank_in seat.old.view.stay.place) (version_in seat.old.view.stay.place) place seat.old.view result seat.new.view }
         ensures shown { Shown L.right self.now.shape (bank_in seat.old.view.stay.place) (version_in seat.old.view.stay.place) place seat.old.view result }
+        ensures sound { Sound L.right self.now.shape (bank_in seat.new.view.stay.place) (version_in seat.new.view.stay.place) seat.new.view }
     {
         let bank = seat.bank;
         self.table.look::<Brand>(&mut seat.token, bank, place)
     }
 
-    /// Writes a word to a place of the bank that the pass is inside, if that is empty, and answers the word found: 0 where it was written.
+    /// Writes a word to a place of the bank that the pass is inside, if that is empty, and answers the word found: 0 where it was written. It tells what a look does.
     pub fn write_step(&self, seat: &mut Seat<L>, place: u32, word: u64) -> u64
         requires table { seat.old.table ≡ self.now }
         requires inside { is_inside seat.old.view.stay.place ≡ true }
@@ -100,6 +102,7 @@ impl<L: Law> Shared<L> {
         ensures table { seat.new.table ≡ seat.old.table }
         ensures view { Written (bank_in seat.old.view.stay.place) (version_in seat.old.view.stay.place) place word seat.old.view result seat.new.view }
         ensures shown { Shown L.right self.now.shape (bank_in seat.old.view.stay.place) (version_in seat.old.view.stay.place) place seat.old.view result }
+        ensures sound { Sound L.right self.now.shape (bank_in seat.new.view.stay.place) (version_in seat.new.view.stay.place) seat.new.view }
     {
         let bank = seat.bank;
         self.table

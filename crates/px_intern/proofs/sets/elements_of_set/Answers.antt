@@ -1,5 +1,5 @@
 use Rattle.std.specs.Prelude.{take}
-use Rattle.std.proofs.Common.{rules, ◌≡◌, ◌≢◌, ◌<◌, ◌≤◌, ◌+◌, ◌-◌, ◌++◌, ℕ, List, [], ◌∷◌, length, refl, sym, ap, subst, ◌∙◌, arith}
+use Rattle.std.proofs.Common.{rules, ◌≡◌, ◌<◌, ◌≤◌, ◌+◌, ◌-◌, ◌++◌, ℕ, List, [], ◌∷◌, length, refl, sym, ap, subst, ◌∙◌, arith}
 use Rattle.std.proofs.lemmas.List.{append_assoc, length-append, append-nil}
 use Rattle.px_text.specs.Sets.{Rising}
 use Rattle.px_rule.specs.declared.shape.Shape.{Shape}
@@ -7,9 +7,9 @@ use Rattle.px_rule.specs.declared.view.Stay.{Stay}
 use Rattle.px_rule.specs.declared.view.View.{View}
 use Rattle.px_rule.specs.Words.{nodes_of, steps_of, size_of}
 use Rattle.px_rule.specs.Table.{bank_in, version_in}
-use Rattle.px_intern.specs.Kept.{Sound}
-use Rattle.px_intern.proofs.Growing.{grew_same, grew_look, grew_trans, looked_at, shown_at, inside_at}
-use Rattle.px_intern.proofs.Sounds.{sound_look}
+use Rattle.px_rule.specs.Kept.{Sound}
+use Rattle.px_rule.proofs.Lasting.{grew_same, grew_look, grew_trans}
+use Rattle.px_intern.proofs.Growing.{looked_at, shown_at, inside_at}
 use Rattle.px_intern.proofs.Tails.{element, Named, told_named, next, place_within, short_set, none_named, one_named, rising_named}
 use Rattle.px_intern.proofs.sets.elements_of_set.Goals as goal
 
@@ -63,7 +63,7 @@ loop-rest-preserved g c =
     let t = next R z k n v w s x i.4.1 c.loop-rest-test.true i.4.4 shown step in (
       c.look_step-word.ensures.table ∙ i.0,
       grew_trans u v w i.1 (grew_look k n s x v w step),
-      sound_look R z k n s x v w (in_size s z low.0) step shown,
+      subst (λ (q : Stay). Sound R z (bank_in q.place) (version_in q.place) w) (ap (λ (a : View _). a.stay) step ∙ i.1.stay) c.look_step-word.ensures.sound,
       ap (λ (a : View _). a.touch.wrote) step ∙ i.3,
       (
         i.4.0,
@@ -100,22 +100,6 @@ loop-rest-smaller g c =
 
 pub returns-in_err-push-clause-grew : goal.returns-in_err-push-clause-grew
 returns-in_err-push-clause-grew g c = grew_trans c.args.seat.now.view c.loop-rest.seat.view c.look_step-word.new.seat.view c.loop-rest.invariant.1 (grew_look _ _ _ _ _ _ c.look_step-word.ensures.view)
-
-pub returns-in_err-push-clause-sound : goal.returns-in_err-push-clause-sound
-returns-in_err-push-clause-sound g c =
-    let i = c.loop-rest.invariant in
-    let R = g.L.Law.right in
-    let z = c.args.shared.now.shape in
-    let u = c.args.seat.now.view in
-    let v = c.loop-rest.seat.view in
-    let w = c.look_step-word.new.seat.view in
-    let k = bank_in u.stay.place in
-    let n = version_in u.stay.place in
-    let s = c.loop-rest.rest in
-    let x = c.look_step-word.result in
-    let low = place_within R z k n v s i.4.1 c.loop-rest-test.true i.2 i.4.4 in
-    let stay : w.stay ≡ u.stay = ap (λ (a : View _). a.stay) c.look_step-word.ensures.view ∙ i.1.stay in
-    subst (λ (q : Stay). Sound R z (bank_in q.place) (version_in q.place) w) (sym stay) (sound_look R z k n s x v w (in_size s z low.0) (looked_at u v w s x i.1.stay c.look_step-word.ensures.view) (shown_at R z u v s x i.1.stay c.look_step-word.ensures.shown))
 
 pub returns-clause-rising : goal.returns-clause-rising
 returns-clause-rising g c =

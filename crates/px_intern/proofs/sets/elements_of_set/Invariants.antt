@@ -1,6 +1,6 @@
 use Rattle.std.proofs.Common.{◌≡◌, ◌-◌, ◌++◌, ℕ, List, length}
 use Rattle.px_rule.specs.Table.{bank_in, version_in}
-use Rattle.px_intern.specs.Kept.{Grew, Sound}
+use Rattle.px_rule.specs.Kept.{Grew, Sound}
 use Rattle.px_intern.proofs.Tails.{Named}
 use Rattle.px_intern.proofs.sets.elements_of_set.Given as goal
 

@@ -7,14 +7,16 @@ use Rattle.px_rule.specs.declared.view.Found.{Found}
 use Rattle.px_rule.specs.declared.view.Stay.{Stay}
 use Rattle.px_rule.specs.declared.view.View.{View}
 use Rattle.px_text.specs.Operands.{Operand, set_of}
-use Rattle.px_rule.specs.Words.{Small, IsShape, node_word, key_of, is_node, nodes_of}
+use Rattle.px_rule.specs.Words.{Small, node_word, key_of, is_node, nodes_of}
 use Rattle.px_rule.specs.Table.{bank_in, version_in}
 use Rattle.px_text.specs.Sets.{Above, Rising}
 use Rattle.px_rule.specs.Known.{KeptSet, named}
 use Rattle.px_rule.proofs.Paths.{nodes_wide, node_is_node}
-use Rattle.px_intern.specs.Kept.{Grew, Wrote, KeptAt, IsAt, Proper, Sound, SuffixWord, SetBlocked, KeyBlocked, Tells}
-use Rattle.px_intern.proofs.Growing.{grew_same, stands_grew, rising_at, proper_node, names_grew, grew_trans, inside_at}
-use Rattle.px_intern.proofs.Sounds.{wrote_on, wrote_none}
+use Rattle.px_rule.specs.Kept.{Grew, Wrote, KeptAt, IsAt, Sound, SuffixWord, SetBlocked, KeyBlocked, Tells}
+use Rattle.px_intern.specs.Proper.{Proper}
+use Rattle.px_rule.proofs.Lasting.{grew_same, stands_grew, names_grew, grew_trans}
+use Rattle.px_intern.proofs.Growing.{rising_at, proper_node, inside_at}
+use Rattle.px_rule.proofs.Sounds.{wrote_on, wrote_none}
 use Rattle.px_intern.proofs.sets.intern_rising.Goals as goal
 
 -- the next element, the elements after it, and the list that the number stands for
@@ -115,7 +117,7 @@ loop-left-preserved g c =
       (let l = i.2 in omega arith),
       (let N : ℕ = nodes_of z in let q : ℕ = p in let below : q < N = at.1 in let wide' : N ≤ 1048576 = wide in let r : q < 1048576 = omega arith in r),
       subst (KeptSet (nodes_of z) (R (take n w.past.seen)) w.touch.kept k n p) (sym x.2) (t, at.0, at.1, x.0, i.3, (kept.0, kept.1), x.1, names),
-      (λ h. subst (λ (q : Stay). Sound R z (bank_in q.place) (version_in q.place) w) i.1.stay (s.sound (subst (λ (q : Stay). Sound R z (bank_in q.place) (version_in q.place) v) (sym i.1.stay) (i.5 h)))),
+      (λ _. subst (λ (q : Stay). Sound R z (bank_in q.place) (version_in q.place) w) (s.grew.stay ∙ i.1.stay) s.sound),
       wrote_on (IsAt k n (SuffixWord R z k n v xs)) (IsAt k n (λ y. y ≡ c.node_word-word.result)) (IsAt k n (SuffixWord R z k n w xs)) u v w (suffix_grew R z k n v w s.grew xs)
           (suffix_new R z k n w xs (c.loop-left.left - 1) e t es c.node_word-word.result x.2 names word) i.6
           (subst (λ (q : Stay). Wrote (IsAt (bank_in q.place) (version_in q.place) (λ y. y ≡ c.node_word-word.result)) v w) i.1.stay s.wrote),
@@ -129,11 +131,10 @@ pub returns-in-Blocked-clause-grew : goal.returns-in-Blocked-clause-grew
 returns-in-Blocked-clause-grew g c = grew_trans c.args.seat.now.view c.loop-left.seat.view c.seek.new.seat.view c.loop-left.invariant.1 c.in-Blocked.ensures.grew
 
 pub returns-in-Blocked-clause-sound : goal.returns-in-Blocked-clause-sound
-returns-in-Blocked-clause-sound g c h =
-    let i = c.loop-left.invariant in
+returns-in-Blocked-clause-sound g c _ =
     let z = c.args.shared.now.shape in
-    subst (λ (q : Stay). Sound g.L.Law.right z (bank_in q.place) (version_in q.place) c.seek.new.seat.view) i.1.stay
-    (c.in-Blocked.ensures.sound (subst (λ (q : Stay). Sound g.L.Law.right z (bank_in q.place) (version_in q.place) c.loop-left.seat.view) (sym i.1.stay) (i.5 h)))
+    let s = c.in-Blocked.ensures in
+    subst (λ (q : Stay). Sound g.L.Law.right z (bank_in q.place) (version_in q.place) c.seek.new.seat.view) (s.grew.stay ∙ c.loop-left.invariant.1.stay) s.sound
 
 pub returns-in-Blocked-clause-wrote : goal.returns-in-Blocked-clause-wrote
 returns-in-Blocked-clause-wrote g c =

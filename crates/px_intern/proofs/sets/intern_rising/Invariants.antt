@@ -3,7 +3,7 @@ use Rattle.px_rule.specs.Words.{nodes_of}
 use Rattle.px_rule.specs.Table.{bank_in, version_in}
 use Rattle.px_rule.specs.Known.{KeptSet}
 use Rattle.std.specs.Prelude.{take}
-use Rattle.px_intern.specs.Kept.{Grew}
+use Rattle.px_rule.specs.Kept.{Grew}
 use Rattle.px_intern.specs.Answers.{StaysSound, WroteNodes}
 use Rattle.px_intern.proofs.sets.intern_rising.Given as goal
 

@@ -1,5 +1,6 @@
-use Rattle.std.proofs.Common.{◌≡◌, ◌∙◌}
-use Rattle.px_intern.proofs.Growing.{grew_trans, told_grew}
+use Rattle.std.proofs.Common.{◌∙◌}
+use Rattle.px_rule.proofs.Lasting.{grew_trans}
+use Rattle.px_intern.proofs.Growing.{told_grew}
 use Rattle.px_intern.proofs.sets.set_of.Goals as goal
 
 pub elements_of_set-requires-clause-told : goal.elements_of_set-requires-clause-told

@@ -1,20 +1,19 @@
-use Rattle.std.proofs.Common.{rules, ◌≡◌, ◌<◌, ◌≤◌, ◌+◌, ℕ, ◌⊎◌, inl, inr, arith, subst, sym, ap, ◌∙◌, refl}
+use Rattle.std.proofs.Common.{rules, ◌≡◌, ◌<◌, ◌≤◌, ◌+◌, ℕ, inl, inr, arith, subst, ap, ◌∙◌, refl}
 use mathlib.Core.Option.{some}
 use Rattle.px_rule.specs.declared.view.View.{View}
-use Rattle.px_rule.specs.Words.{step_word, long_of, key_of}
 use Rattle.px_rule.specs.Table.{bank_in, version_in}
 use Rattle.px_rule.specs.Known.{answered}
 use Rattle.px_rule.specs.Steps.{Shown}
-use Rattle.px_intern.specs.Kept.{KeptAt, Gapped, PassedBy, KeyBlocked}
-use Rattle.px_intern.proofs.Sounds.{sound_look}
-use Rattle.px_intern.proofs.Growing.{grew_same, absent, kept_back, grew_look, grew_trans, kept_look, gap_look, passed_grew, passed_more, looked_at, shown_at, inside_at, apart, whole_step}
+use Rattle.px_rule.specs.Kept.{KeptAt, Gapped, PassedBy, KeyBlocked}
+use Rattle.px_rule.proofs.Lasting.{grew_same, grew_look, grew_trans, kept_look, gap_look, passed_grew, passed_more}
+use Rattle.px_intern.proofs.Growing.{absent, kept_back, looked_at, shown_at, inside_at, apart, whole_step}
 use Rattle.px_intern.proofs.steps.find.Goals as goal
 
 one_later : (a b c t : ℕ) → b ≡ a + t → c ≡ b + 1 → c ≡ a + (t + 1)
 one_later a b c t h j = omega arith
 
 pub loop-turn-init : goal.loop-turn-init
-loop-turn-init g c = (refl, grew_same c.args.seat.now.view, (λ j l. absurd (omega arith)), (λ h. h), refl, (let t : ℕ = c.args.seat.now.view.touch.touches in let r : t ≡ t + 0 = omega arith in r))
+loop-turn-init g c = (refl, grew_same c.args.seat.now.view, (λ j l. absurd (omega arith)), (λ l. absurd (omega arith)), refl, (let t : ℕ = c.args.seat.now.view.touch.touches in let r : t ≡ t + 0 = omega arith in r))
 
 pub look_step-found-requires-clause-table : goal.look_step-found-requires-clause-table
 look_step-found-requires-clause-table g c = c.loop-turn.invariant.0 ∙ c.requires.table
@@ -41,7 +40,7 @@ loop-turn-preserved g c =
       grew_trans u v w i.1 grew,
       passed_more g.L.Law.right z k n key c.loop-turn.turn w x p (passed_grew g.L.Law.right z k n key c.loop-turn.turn v w grew i.2) c.place_in-at.ensures.place
           (kept_look k n p x v w step c.if-found-eq0.false) (apart x key c.if-found-key.false),
-      (λ _. sound_look g.L.Law.right z k n p x v w c.place_in-at.ensures.within step shown),
+      (λ _. c.look_step-found.ensures.sound),
       ap (λ (a : View _). a.touch.wrote) step ∙ i.4,
       one_later u.touch.touches v.touch.touches w.touch.touches c.loop-turn.turn i.5 (ap (λ (a : View _). a.touch.touches) step),
     )
@@ -57,28 +56,6 @@ returns-then-found-eq0-clause-grew g c = grew_trans c.args.seat.now.view c.loop-
 
 pub returns-then-found-key-clause-grew : goal.returns-then-found-key-clause-grew
 returns-then-found-key-clause-grew g c = grew_trans c.args.seat.now.view c.loop-turn.seat.view c.look_step-found.new.seat.view c.loop-turn.invariant.1 (grew_look _ _ _ _ _ _ c.look_step-found.ensures.view)
-
-pub returns-then-found-eq0-clause-sound : goal.returns-then-found-eq0-clause-sound
-returns-then-found-eq0-clause-sound g c _ =
-    let u = c.args.seat.now.view in
-    let v = c.loop-turn.seat.view in
-    let w = c.look_step-found.new.seat.view in
-    let p = c.place_in-at.result in
-    let x = c.look_step-found.result in
-    let i = c.loop-turn.invariant in
-    sound_look g.L.Law.right c.args.shared.now.shape (bank_in u.stay.place) (version_in u.stay.place) p x v w c.place_in-at.ensures.within (looked_at u v w p x i.1.stay c.look_step-found.ensures.view)
-    (shown_at g.L.Law.right c.args.shared.now.shape u v p x i.1.stay c.look_step-found.ensures.shown)
-
-pub returns-then-found-key-clause-sound : goal.returns-then-found-key-clause-sound
-returns-then-found-key-clause-sound g c _ =
-    let u = c.args.seat.now.view in
-    let v = c.loop-turn.seat.view in
-    let w = c.look_step-found.new.seat.view in
-    let p = c.place_in-at.result in
-    let x = c.look_step-found.result in
-    let i = c.loop-turn.invariant in
-    sound_look g.L.Law.right c.args.shared.now.shape (bank_in u.stay.place) (version_in u.stay.place) p x v w c.place_in-at.ensures.within (looked_at u v w p x i.1.stay c.look_step-found.ensures.view)
-    (shown_at g.L.Law.right c.args.shared.now.shape u v p x i.1.stay c.look_step-found.ensures.shown)
 
 pub returns-then-found-eq0-clause-wrote_none : goal.returns-then-found-eq0-clause-wrote_none
 returns-then-found-eq0-clause-wrote_none g c = ap (λ (a : View _). a.touch.wrote) c.look_step-found.ensures.view ∙ c.loop-turn.invariant.4
@@ -146,3 +123,8 @@ returns-clause-answer g c =
     let z = c.args.shared.now.shape in
     let done : KeyBlocked z (bank_in u.stay.place) (version_in u.stay.place) c.step_word-key.result c.loop-turn.seat.view = subst (λ (m : ℕ). PassedBy z (bank_in u.stay.place) (version_in u.stay.place) c.step_word-key.result m c.loop-turn.seat.view) (search rules) c.loop-turn.invariant.2 in
     inr (subst (λ (q : ℕ). KeyBlocked z (bank_in u.stay.place) (version_in u.stay.place) q c.loop-turn.seat.view) c.step_word-key.ensures.word done)
+
+pub returns-clause-sound : goal.returns-clause-sound
+returns-clause-sound g c =
+    let some_turns : 0 < c.turns-turn-end.result = c.turns-turn-end.ensures.short.0 in
+    c.loop-turn.invariant.3 (subst (λ (m : ℕ). 0 < m) (search rules) some_turns)

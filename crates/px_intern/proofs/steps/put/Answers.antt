@@ -1,8 +1,6 @@
-use Rattle.std.proofs.Common.{◌≡◌, ◌∙◌, ℕ, sym, ap, subst}
-use Rattle.px_rule.specs.Words.{step_word, long_of, key_of}
+use Rattle.std.proofs.Common.{ℕ, subst}
 use Rattle.px_rule.specs.Table.{bank_in, version_in}
-use Rattle.px_intern.specs.Kept.{IsAt, Wrote, KeptAt, KeyBlocked}
-use Rattle.px_intern.specs.Answers.{WroteOnly}
+use Rattle.px_rule.specs.Kept.{KeyBlocked}
 use Rattle.px_intern.proofs.Growing.{proper_step}
 use Rattle.px_intern.proofs.steps.put.Goals as goal
 

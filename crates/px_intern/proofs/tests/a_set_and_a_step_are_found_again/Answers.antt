@@ -2,7 +2,8 @@ use Rattle.std.proofs.Common.{◌≡◌, ℕ, List, [], refl}
 use Rattle.px_text.specs.declared.op.Op.{Op}
 use Rattle.px_text.specs.Operands.{Operand, index, set_of}
 use Rattle.px_rule.specs.Known.{plain, named}
-use Rattle.px_intern.proofs.Growing.{grew_trans, told_grew}
+use Rattle.px_rule.proofs.Lasting.{grew_trans}
+use Rattle.px_intern.proofs.Growing.{told_grew}
 use Rattle.px_intern.proofs.tests.a_set_and_a_step_are_found_again.Goals as goal
 
 abbrev all_empty : List ℕ → Op → Operand → Operand → List ℕ → Type 0

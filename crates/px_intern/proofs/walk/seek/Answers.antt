@@ -1,18 +1,18 @@
-use Rattle.std.proofs.Common.{rules, ◌≡◌, ◌≤◌, ◌+◌, ◌*◌, ℕ, refl, sym, ap, subst, ◌∙◌, arith}
+use Rattle.std.proofs.Common.{rules, ◌≡◌, ◌≤◌, ◌<◌, ◌+◌, ◌*◌, ℕ, refl, sym, subst, ◌∙◌, arith}
 use Rattle.px_rule.specs.declared.view.Stay.{Stay}
-use Rattle.px_rule.specs.declared.view.View.{View}
-use Rattle.px_rule.specs.Words.{key_of}
 use Rattle.px_rule.specs.Table.{bank_in, version_in}
-use Rattle.px_intern.specs.Kept.{IsAt, Wrote, Proper, PassedBy, KeptAt, Sound}
-use Rattle.px_intern.proofs.Growing.{grew_same, grew_trans, proper_grew, passed_grew, passed_more, apart, one_key, inside_at}
-use Rattle.px_intern.proofs.Sounds.{wrote_on, wrote_none}
+use Rattle.px_rule.specs.Kept.{IsAt, Wrote, PassedBy, KeptAt}
+use Rattle.px_intern.specs.Proper.{Proper}
+use Rattle.px_rule.proofs.Lasting.{grew_same, grew_trans, passed_grew, passed_more}
+use Rattle.px_intern.proofs.Growing.{proper_grew, apart, one_key, inside_at}
+use Rattle.px_rule.proofs.Sounds.{wrote_on, wrote_none}
 use Rattle.px_intern.proofs.walk.seek.Goals as goal
 
 two_more : (a b c t : ℕ) → b ≤ a + t * 2 → c ≤ b + 2 → c ≤ a + (t + 1) * 2
 two_more a b c t h l = omega arith
 
 pub loop-turn-init : goal.loop-turn-init
-loop-turn-init g c = (refl, grew_same c.args.seat.now.view, (λ j l. absurd (omega arith)), (λ h. h), wrote_none _ c.args.seat.now.view c.args.seat.now.view refl, (let t : ℕ = c.args.seat.now.view.touch.touches in let r : t ≤ t + 0 * 2 = omega arith in r))
+loop-turn-init g c = (refl, grew_same c.args.seat.now.view, (λ j l. absurd (omega arith)), (λ l. absurd (omega arith)), wrote_none _ c.args.seat.now.view c.args.seat.now.view refl, (let t : ℕ = c.args.seat.now.view.touch.touches in let r : t ≤ t + 0 * 2 = omega arith in r))
 
 pub try_turn-at-requires-clause-table : goal.try_turn-at-requires-clause-table
 try_turn-at-requires-clause-table g c = c.loop-turn.invariant.0 ∙ c.requires.table
@@ -47,7 +47,7 @@ loop-turn-preserved g c =
       passed_more g.L.Law.right z k n c.args.word c.loop-turn.turn w c.try_turn-at.result.1 c.try_turn-at.result.0 (passed_grew g.L.Law.right z k n c.args.word c.loop-turn.turn v w t.grew i.2) t.found.place
           (subst (λ (s : Stay). KeptAt (bank_in s.place) (version_in s.place) c.try_turn-at.result.0 c.try_turn-at.result.1 w) i.1.stay t.found.kept)
           (apart c.try_turn-at.result.1 c.args.word c.if-found-word.false),
-      (λ h. subst (λ (s : Stay). Sound g.L.Law.right z (bank_in s.place) (version_in s.place) w) i.1.stay (t.sound (subst (λ (s : Stay). Sound g.L.Law.right z (bank_in s.place) (version_in s.place) v) (sym i.1.stay) (i.3 h)))),
+      (λ _. t.sound),
       wrote_on P P P u v w (λ f h. h) (λ f h. h) i.4 (subst (λ (s : Stay). Wrote (IsAt (bank_in s.place) (version_in s.place) (λ x. x ≡ c.args.word)) v w) i.1.stay t.wrote),
       two_more u.touch.touches v.touch.touches w.touch.touches c.loop-turn.turn i.5 t.touched,
     )
@@ -57,13 +57,6 @@ returns-then-found-word-clause-table g c = c.try_turn-at.ensures.table ∙ c.loo
 
 pub returns-then-found-word-clause-grew : goal.returns-then-found-word-clause-grew
 returns-then-found-word-clause-grew g c = grew_trans c.args.seat.now.view c.loop-turn.seat.view c.try_turn-at.new.seat.view c.loop-turn.invariant.1 c.try_turn-at.ensures.grew
-
-pub returns-then-found-word-clause-sound : goal.returns-then-found-word-clause-sound
-returns-then-found-word-clause-sound g c h =
-    let i = c.loop-turn.invariant in
-    let z = c.args.shared.now.shape in
-    subst (λ (s : Stay). Sound g.L.Law.right z (bank_in s.place) (version_in s.place) c.try_turn-at.new.seat.view) i.1.stay
-    (c.try_turn-at.ensures.sound (subst (λ (s : Stay). Sound g.L.Law.right z (bank_in s.place) (version_in s.place) c.loop-turn.seat.view) (sym i.1.stay) (i.3 h)))
 
 pub returns-then-found-word-clause-wrote : goal.returns-then-found-word-clause-wrote
 returns-then-found-word-clause-wrote g c =
@@ -94,3 +87,8 @@ within a b c t end h l m s = omega arith
 pub returns-then-found-word-clause-touched : goal.returns-then-found-word-clause-touched
 returns-then-found-word-clause-touched g c =
     within c.args.seat.now.view.touch.touches c.loop-turn.seat.view.touch.touches c.try_turn-at.new.seat.view.touch.touches c.loop-turn.turn c.turns-turn-end.result c.loop-turn.invariant.5 c.try_turn-at.ensures.touched (search rules) c.turns-turn-end.ensures.short.1
+
+pub returns-clause-sound : goal.returns-clause-sound
+returns-clause-sound g c =
+    let some_turns : 0 < c.turns-turn-end.result = c.turns-turn-end.ensures.short.0 in
+    c.loop-turn.invariant.3 (subst (λ (m : ℕ). 0 < m) (search rules) some_turns)

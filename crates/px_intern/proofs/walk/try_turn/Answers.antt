@@ -4,9 +4,10 @@ use Rattle.px_rule.specs.declared.view.Stay.{Stay}
 use Rattle.px_rule.specs.declared.view.View.{View}
 use Rattle.px_rule.specs.Table.{bank_in, version_in}
 use Rattle.px_rule.specs.Steps.{MayWrite}
-use Rattle.px_intern.specs.Kept.{IsAt}
-use Rattle.px_intern.proofs.Growing.{found_same, node_at, grew_look, grew_write, grew_trans, proper_grew, passed_grew, may_put, kept_look, kept_write, kept_write_other, written_at, shown_at, inside_at}
-use Rattle.px_intern.proofs.Sounds.{sound_look, sound_write, wrote_look, wrote_write, wrote_on}
+use Rattle.px_rule.specs.Kept.{IsAt}
+use Rattle.px_rule.proofs.Lasting.{grew_look, grew_write, grew_trans, passed_grew, kept_look, kept_write, kept_write_other}
+use Rattle.px_intern.proofs.Growing.{found_same, node_at, proper_grew, may_put, written_at, shown_at, inside_at}
+use Rattle.px_rule.proofs.Sounds.{wrote_look, wrote_write, wrote_on}
 use Rattle.px_intern.proofs.walk.try_turn.Goals as goal
 
 two_more : (a b c : ℕ) → b ≡ a + 1 → c ≡ b + 1 → c ≤ a + 2
@@ -37,11 +38,6 @@ write_step-found-requires-clause-word g c =
 
 pub returns-then-found-ne0-clause-grew : goal.returns-then-found-ne0-clause-grew
 returns-then-found-ne0-clause-grew g c = grew_look _ _ _ _ c.args.seat.now.view c.look_step-found.new.seat.view c.look_step-found.ensures.view
-
-pub returns-then-found-ne0-clause-sound : goal.returns-then-found-ne0-clause-sound
-returns-then-found-ne0-clause-sound g c _ =
-    let v = c.args.seat.now.view in
-    sound_look g.L.Law.right c.args.shared.now.shape (bank_in v.stay.place) (version_in v.stay.place) c.place_in-at.result c.look_step-found.result v c.look_step-found.new.seat.view c.place_in-at.ensures.within c.look_step-found.ensures.view c.look_step-found.ensures.shown
 
 pub returns-then-found-ne0-clause-wrote : goal.returns-then-found-ne0-clause-wrote
 returns-then-found-ne0-clause-wrote g c =
@@ -74,23 +70,6 @@ pub returns-then-found-eq0-clause-grew : goal.returns-then-found-eq0-clause-grew
 returns-then-found-eq0-clause-grew g c =
     grew_trans c.args.seat.now.view c.look_step-found.new.seat.view c.write_step-found.new.seat.view (grew_look _ _ _ _ _ _ c.look_step-found.ensures.view) (grew_write _ _ _ _ _ _ _ c.write_step-found.ensures.view)
 
-pub returns-then-found-eq0-clause-sound : goal.returns-then-found-eq0-clause-sound
-returns-then-found-eq0-clause-sound g c _ =
-    let v = c.args.seat.now.view in
-    let u = c.look_step-found.new.seat.view in
-    let w = c.write_step-found.new.seat.view in
-    let k = bank_in v.stay.place in
-    let n = version_in v.stay.place in
-    let z = c.args.shared.now.shape in
-    let p = c.place_in-at.result in
-    let x = c.write_step-found.result in
-    let stay = ap (λ (a : View _). a.stay) c.look_step-found.ensures.view in
-    let grew = grew_look k n p c.look_step-found.result v u c.look_step-found.ensures.view in
-    sound_write g.L.Law.right z k n p c.args.word x u w (g.L.Law.one_answer (take n u.past.seen))
-    (may_put g.L.Law.right z k n c.args.word c.args.turn p u (proper_grew g.L.Law.right z k n v u c.args.word grew (c.requires.word c.place_in-at.ensures.shape))
-    (passed_grew g.L.Law.right z k n c.args.word c.args.turn v u grew c.requires.passed) c.requires.turn c.place_in-at.ensures.place c.place_in-at.ensures.within)
-    (written_at v u w p c.args.word x stay c.write_step-found.ensures.view) (shown_at g.L.Law.right z v u p x stay c.write_step-found.ensures.shown)
-
 pub returns-then-found-eq0-clause-wrote : goal.returns-then-found-eq0-clause-wrote
 returns-then-found-eq0-clause-wrote g c =
     let v = c.args.seat.now.view in
@@ -115,23 +94,6 @@ returns-else-found-eq0-clause-table g c = c.write_step-found.ensures.table ∙ c
 pub returns-else-found-eq0-clause-grew : goal.returns-else-found-eq0-clause-grew
 returns-else-found-eq0-clause-grew g c =
     grew_trans c.args.seat.now.view c.look_step-found.new.seat.view c.write_step-found.new.seat.view (grew_look _ _ _ _ _ _ c.look_step-found.ensures.view) (grew_write _ _ _ _ _ _ _ c.write_step-found.ensures.view)
-
-pub returns-else-found-eq0-clause-sound : goal.returns-else-found-eq0-clause-sound
-returns-else-found-eq0-clause-sound g c _ =
-    let v = c.args.seat.now.view in
-    let u = c.look_step-found.new.seat.view in
-    let w = c.write_step-found.new.seat.view in
-    let k = bank_in v.stay.place in
-    let n = version_in v.stay.place in
-    let z = c.args.shared.now.shape in
-    let p = c.place_in-at.result in
-    let x = c.write_step-found.result in
-    let stay = ap (λ (a : View _). a.stay) c.look_step-found.ensures.view in
-    let grew = grew_look k n p c.look_step-found.result v u c.look_step-found.ensures.view in
-    sound_write g.L.Law.right z k n p c.args.word x u w (g.L.Law.one_answer (take n u.past.seen))
-    (may_put g.L.Law.right z k n c.args.word c.args.turn p u (proper_grew g.L.Law.right z k n v u c.args.word grew (c.requires.word c.place_in-at.ensures.shape))
-    (passed_grew g.L.Law.right z k n c.args.word c.args.turn v u grew c.requires.passed) c.requires.turn c.place_in-at.ensures.place c.place_in-at.ensures.within)
-    (written_at v u w p c.args.word x stay c.write_step-found.ensures.view) (shown_at g.L.Law.right z v u p x stay c.write_step-found.ensures.shown)
 
 pub returns-else-found-eq0-clause-wrote : goal.returns-else-found-eq0-clause-wrote
 returns-else-found-eq0-clause-wrote g c =

@@ -1,10 +1,13 @@
 use Rattle.std.proofs.Common.{◌≡◌, ◌<◌, ◌∙◌, ℕ, true, false, refl, subst, sym, ap, arith}
 use Rattle.px_rule.specs.declared.shape.Shape.{Shape}
 use Rattle.px_rule.specs.declared.view.Place.TheVariants.{Inside}
+use Rattle.px_rule.specs.declared.view.Stay.{Stay}
 use Rattle.px_rule.specs.declared.view.View.{View}
 use Rattle.px_rule.specs.Steps.{Looked, looked, Shown}
+use Rattle.px_rule.specs.Kept.{Sound}
 use Rattle.px_rule.specs.Table.{Seated, TableName, IsSeat, is_inside, bank_in, version_in}
 use Rattle.px_rule.proofs.Seats.{inside_of, same_place}
+use Rattle.px_rule.proofs.Sounds.{sound_look}
 use Rattle.px_rule.proofs.shared.Shared.look_step.Goals as goal
 
 pub look-requires-clause-bank : goal.look-requires-clause-bank
@@ -54,3 +57,12 @@ returns-clause-shown g c =
     let shape = ap (λ (t : TableName). t.shape) c.self.view_is in
     subst (λ (q : Shape × View g.row.L-Entry.Denot). Shown g.L.Law.right q.0 (bank_in q.1.stay.place) (version_in q.1.stay.place) p q.1 x) (λ i. (shape i, view i))
     (subst (λ (k : ℕ). Shown g.L.Law.right c.self.inside.table.shape k (version_in v.stay.place) p v x) b.1 c.look.ensures.view.0.1)
+
+pub returns-clause-sound : goal.returns-clause-sound
+returns-clause-sound g c =
+    let z = c.args.self.now.shape in
+    let v = c.args.seat.now.view in
+    let w = c.look.new.seat.me.0 in
+    let told = returns-clause-view g c in
+    subst (λ (q : Stay). Sound g.L.Law.right z (bank_in q.place) (version_in q.place) w) (sym (ap (λ (a : View g.row.L-Entry.Denot). a.stay) told))
+    (sound_look g.L.Law.right z (bank_in v.stay.place) (version_in v.stay.place) c.args.place c.look.result v w c.requires.place told (returns-clause-shown g c))

@@ -1,5 +1,5 @@
--- What a view keeps of a bank at one version, what it gains, and what that tells.
-use Rattle.std.specs.Prelude.{◌≡◌, ◌≢◌, ℕ, ◌+◌, ◌<◌, ◌≤◌, Bool, true, List, [], ◌∷◌, ◌++◌, take, All}
+-- What a view keeps of a bank at one version, what it gains, and what that tells: which sets numbers stand for, and which keys are blocked.
+use Rattle.std.specs.Prelude.{◌≡◌, ◌≢◌, ℕ, ◌<◌, ◌≤◌, Bool, true, List, ◌∷◌, ◌++◌, take, All}
 use mathlib.Core.Option.{some}
 use lib.ListN.{get_elem?}
 use Rattle.px_text.specs.declared.op.Op.{Op}
@@ -7,9 +7,8 @@ use Rattle.px_rule.specs.declared.shape.Shape.{Shape}
 use Rattle.px_rule.specs.declared.view.Found.{Found}
 use Rattle.px_rule.specs.declared.view.Gap.{Gap}
 use Rattle.px_rule.specs.declared.view.View.{View}
-use Rattle.px_text.specs.Operands.{Operand, set_of, first_is_set, second_is_set}
-use Rattle.px_rule.specs.Words.{Small, node_word, step_word, key_of, nodes_of, steps_of, path_of, long_of}
-use Rattle.px_text.specs.Sets.{Above}
+use Rattle.px_text.specs.Operands.{Operand, set_of}
+use Rattle.px_rule.specs.Words.{Small, node_word, key_of, nodes_of, steps_of, path_of, long_of}
 use Rattle.px_rule.specs.RightBanks.{RightBank}
 use Rattle.px_rule.specs.Known.{found, Agrees, Stands}
 
@@ -73,22 +72,6 @@ module _ {E : Type 0} (right : List E → Op → Operand → Operand → List �
     pub mem : ℕ → ℕ
     pub bank : RightBank (nodes_of z) (steps_of z) (path_of z) (long_of z) (right (take n v.past.seen)) mem
     pub agrees : Agrees (nodes_of z) (steps_of z) (path_of z) (long_of z) (right (take n v.past.seen)) v.touch.kept k n mem
-
-  -- the word may stand at node place p: its tail is told, and its element is below that
-  abbrev pub AsNode : View E → ℕ → ℕ → Type 0
-  AsNode v p w = (e : ℕ) × (t : ℕ) × (es : List ℕ) × (0 < p) × Small e × Small t × (w ≡ node_word e t) × Above e es × Tells v true t (set_of es)
-
-  -- the word is that of a right step between numbers that are told
-  abbrev pub AsStep : View E → ℕ → Type 0
-  AsStep v w = (op : Op) × (a : ℕ) × (b : ℕ) × (r : ℕ) × (first : Operand) × (second : Operand) × (x : List ℕ)
-      × Small a × Small b × Small r × (w ≡ step_word op a b r)
-      × Tells v (first_is_set op) a first × Tells v (second_is_set op) b second × Tells v true r (set_of x) × right (take n v.past.seen) op first second x
-
-  -- the word may stand at any place of its path
-  pub record Proper (v : View E) (w : ℕ) : Type 0 where
-    pub some_word : w ≢ 0
-    pub as_node : (i : ℕ) → i < long_of z (key_of w) → path_of z (key_of w) i < nodes_of z → AsNode v (path_of z (key_of w) i) w
-    pub as_step : (i : ℕ) → i < long_of z (key_of w) → nodes_of z ≤ path_of z (key_of w) i → AsStep v w
 
   -- some rest of the set has a node word that no place is free for
   pub record SetBlocked (v : View E) (xs : List ℕ) (w : ℕ) : Type 0 where

@@ -1,5 +1,5 @@
 -- What a view keeps stands in one right bank, after each look and each write, and what the writes were.
-use Rattle.std.proofs.Common.{◌≡◌, ◌≢◌, ℕ, zero, suc, ◌+◌, ◌<◌, Bool, true, false, cond, eqb, List, [], ◌∷◌, ◌++◌, take, All, refl, sym, ap, ◌∙◌, subst, eq-eqb, ne_eqb, arith}
+use Rattle.std.proofs.Common.{◌≡◌, ◌≢◌, ℕ, zero, suc, ◌+◌, ◌<◌, Bool, true, false, cond, eqb, List, [], ◌∷◌, ◌++◌, take, All, refl, sym, ap, ◌∙◌, subst, eq-eqb, ne_eqb}
 use Rattle.std.proofs.lemmas.List.{append_assoc}
 use Rattle.std.proofs.lemmas.List.Elements.{All-nil, All-cons, All-append}
 use mathlib.Core.Logic.{dite}
@@ -17,8 +17,8 @@ use Rattle.px_rule.specs.Known.{found, Has, MayPut}
 use Rattle.px_rule.specs.Steps.{Looked, Written, Shown}
 use Rattle.px_rule.proofs.RightBanks.{MayWrite, writes}
 use Rattle.px_rule.proofs.Known.{stands_sound}
-use Rattle.px_intern.specs.Kept.{Wrote, Sound}
-use Rattle.px_intern.proofs.Growing.{names_in}
+use Rattle.px_rule.specs.Kept.{Wrote, Sound}
+use Rattle.px_rule.proofs.Lasting.{names_in}
 
 abbrev place_in : Found → ℕ
 place_in f = f.place
