@@ -1,6 +1,7 @@
 pub mod Answering
 pub mod Fronts
 pub mod Lines
+pub mod OptionReading
 pub mod Reading
 pub mod Saying
 pub mod Stopping

@@ -16,6 +16,8 @@ use Rattle.px_feed.specs.declared.line.FeedKind.TheVariants.{Doc}
 use Rattle.px_feed.specs.declared.line.OutLine.{OutLine}
 use Rattle.px_feed.specs.declared.line.OutLine.TheVariants.{NoFilter, Yes, No}
 use Rattle.px_feed.specs.declared.status.Status.{Status}
+use Rattle.px_feed.specs.declared.status.Status.TheVariants.{Done}
+use Rattle.px_feed.specs.Generator.{feed}
 use Rattle.px_feed.specs.Lines.{line_text}
 use Rattle.px_feed.specs.Matches.{OutShow, faulty, status_behind}
 use Rattle.px_xpath.specs.declared.fault.ParseFault.{ParseFault}
@@ -28,7 +30,7 @@ use Rattle.xpush.specs.declared.stop.Stop.TheVariants as stops
 use Rattle.xpush.specs.Stops.{outcome_of, refusal_of}
 use Rattle.xpush.specs.Answers.{IsLineFor, IsLineUnder, WritesFront, is_of_filter, is_truncated}
 use Rattle.xpush.specs.Documents.{GivesTree, GivesFault}
-use Rattle.xpush.specs.Forms.{Form, Matches, Shows}
+use Rattle.xpush.specs.Forms.{Makes, Form, Matches, Shows}
 use Rattle.xpush.specs.Fronts.{AddsFront}
 
 -- the line of a document that was read to its end
@@ -152,3 +154,14 @@ cut_shown text shown left held held_after status out front = record {
   written = front.1;
   is_front = λ bytes told. inr (shown, drop front.0 shown, status, out, sym (take-append-drop front.0 shown));
 }
+
+-- where a feed was cut short, its front was written
+pub cut_feed : (seed filters documents : ℕ) (left held held_after : Option (List ℕ)) → AddsFront held (feed seed filters documents) held_after →
+    WritesFront (Makes seed filters documents) left held held_after
+cut_feed seed filters documents left held held_after front =
+    let text = feed seed filters documents in
+    record {
+      bytes_written = take front.0 text;
+      written = front.1;
+      is_front = λ bytes told. inr (text, drop front.0 text, Done, (refl, refl), sym (take-append-drop front.0 text));
+    }

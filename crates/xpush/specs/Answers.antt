@@ -8,10 +8,11 @@ use Rattle.px_feed.specs.declared.line.OutLine.{OutLine}
 use Rattle.px_feed.specs.declared.line.OutLine.TheVariants.{NoFilter, Faulty, Yes, No}
 use Rattle.px_feed.specs.declared.status.Status.{Status}
 use Rattle.px_feed.specs.declared.status.Status.TheVariants.{Done, Refused, WriteFault, Memory}
+use Rattle.px_feed.specs.Generator.{feed}
 use Rattle.px_feed.specs.Lines.{line_text}
 use Rattle.px_feed.specs.Matches.{AnswersDocument, AnswersMatch, OutMatch, OutShow, status_behind}
 use Rattle.px_xpath.specs.Filters.{Way}
-use Rattle.xpush.specs.Forms.{Form, Matches, Shows}
+use Rattle.xpush.specs.Forms.{Form, Makes, Matches, Shows}
 
 abbrev pub is_truncated : FeedKind → Bool
 is_truncated (Doc Truncated) = true
@@ -54,15 +55,27 @@ pub record Shown (filter : List ℕ) (left after held held_after : Option (List 
   pub written : AddsTo held text held_after
   pub unread : after ≡ left
 
+-- A run of `make` that was not cut short read nothing, and wrote the feed.
+pub record Made (seed filters documents : ℕ) (left after held held_after : Option (List ℕ)) (status : Status) : Type 0 where
+  pub written : AddsTo held (feed seed filters documents) held_after
+  pub ended : status ≡ Done
+  pub unread : after ≡ left
+
 -- what a run that was not cut short answers
 abbrev pub Answers : Form → (left after held held_after : Option (List ℕ)) → Status → Type 0
 Answers (Matches filter) = Matched filter
 Answers (Shows filter) = Shown filter
+Answers (Makes seed filters documents) = Made seed filters documents
+
+-- the text and the status of `make`
+abbrev pub OutMake : (seed filters documents : ℕ) → (text : List ℕ) → Status → Type 0
+OutMake seed filters documents text status = (text ≡ feed seed filters documents) × (status ≡ Done)
 
 -- the text and the status for a form and the bytes of the source
 abbrev pub OutOf : Form → (bytes text : List ℕ) → Status → Type 0
 OutOf (Matches filter) bytes = OutMatch filter bytes
 OutOf (Shows filter) bytes = OutShow filter
+OutOf (Makes seed filters documents) bytes = OutMake seed filters documents
 
 -- These bytes are the front of the output: nothing yet, or a front of its text.
 abbrev pub IsFrontOfOut : Form → (bytes written : List ℕ) → Type 0

@@ -1,6 +1,7 @@
 -- The forms of the words of the command line.
-use Rattle.std.specs.Prelude.{◌≡◌, ℕ, List, [], ◌∷◌, map, codes, Option, Some, None, option_map, bytes_eq, if◌then◌else◌, string_bytes}
+use Rattle.std.specs.Prelude.{◌≡◌, ℕ, List, [], ◌∷◌, map, codes, Option, Some, None, option_map, option_and_then, bytes_eq, if◌then◌else◌, string_bytes}
 use Rattle.std.specs.declared.string.String.{String}
+use Rattle.xpush.specs.OptionWords.{Rule, values_in}
 use Rattle.xpush.specs.declared.words.Command.{Command}
 use Rattle.xpush.specs.declared.words.Command.TheVariants as command
 
@@ -12,17 +13,40 @@ texts = map string_bytes
 pub data Form : Type 0 where
   Matches : (filter : List ℕ) → Form
   Shows : (filter : List ℕ) → Form
+  Makes : (seed filters documents : ℕ) → Form
+
+-- `match FILTER` and `show FILTER`
+abbrev pub filter_form : List ℕ → List (List ℕ) → Option Form
+filter_form name (filter ∷ []) =
+    if bytes_eq name (codes "match") then Some (Matches filter) else if bytes_eq name (codes "show") then Some (Shows filter) else None
+filter_form name _ = None
+
+-- the options of `make`, which all have to be given
+abbrev pub make_options : List Rule
+make_options =
+    record { name = codes "seed"; least = 0; most = 2147483647; otherwise = None }
+    ∷ record { name = codes "filters"; least = 0; most = 50000; otherwise = None }
+    ∷ record { name = codes "documents"; least = 0; most = 100000; otherwise = None }
+    ∷ []
+
+abbrev pub makes : List ℕ → Option Form
+makes (seed ∷ filters ∷ documents ∷ []) = Some (Makes seed filters documents)
+makes _ = None
+
+-- `make --seed N --filters N --documents N`
+abbrev pub make_form : List (List ℕ) → Option Form
+make_form words = option_and_then makes (values_in make_options words)
 
 -- what the words ask for, if they are in a form
 abbrev pub form_of : List (List ℕ) → Option Form
-form_of (name ∷ filter ∷ []) =
-    if bytes_eq name (codes "match") then Some (Matches filter) else if bytes_eq name (codes "show") then Some (Shows filter) else None
-form_of _ = None
+form_of [] = None
+form_of (name ∷ words) = if bytes_eq name (codes "make") then make_form words else filter_form name words
 
 -- the form that a command is
 abbrev pub form : Command → Form
 form (command.Match filter) = Matches filter.now
 form (command.Show filter) = Shows filter.now
+form (command.Make seed filters documents) = Makes seed filters documents
 
 -- the command is what the words ask for
 abbrev pub Says : List (List ℕ) → Option Command → Type 0

@@ -6,7 +6,9 @@
 #![tactic(auto)]
 
 mod document;
+mod making;
 mod matching;
+mod options;
 mod output;
 pub mod plain;
 pub mod run;

@@ -5,6 +5,7 @@ ghost use Rattle.px_io.specs.Faults.{Rose};
 ghost use Rattle.xpush.specs.Answers.{Answers, WritesFront, is_finished, is_cut_short};
 ghost use Rattle.xpush.specs.Forms.{form, form_of, texts};
 
+use crate::making::make_feed;
 use crate::matching::match_document;
 use crate::showing::show_filter;
 use crate::words::{Command, command_of};
@@ -58,5 +59,10 @@ fn run_command<S: Source, K: Sink>(
     match command {
         Command::Match { filter } => match_document(alloc, filter, source, sink),
         Command::Show { filter } => show_filter(alloc, filter, sink),
+        Command::Make {
+            seed,
+            filters,
+            documents,
+        } => make_feed(alloc, seed, filters, documents, sink),
     }
 }

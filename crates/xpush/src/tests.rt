@@ -17,7 +17,7 @@ struct Row {
     status: Status,
 }
 
-const ROWS: [Row; 41] = [
+const ROWS: [Row; 43] = [
     Row {
         words: &["match", "/a/b"],
         source: b"(a\n(b\n)b\n)a\n",
@@ -264,16 +264,49 @@ const ROWS: [Row; 41] = [
         text: b"! filter not-a-filter 3\n",
         status: Status::Refused,
     },
+    Row {
+        words: &["make", "--seed", "1", "--filters", "2", "--documents", "1"],
+        source: b"",
+        text: FEED,
+        status: Status::Done,
+    },
+    Row {
+        words: &["make", "--documents=1", "--filters", "02", "--seed=1"],
+        source: b"",
+        text: FEED,
+        status: Status::Done,
+    },
 ];
 
+/// The feed of seed 1 with two filters and one document.
+const FEED: &[u8] =
+    b"+//e6[not(e1)]\n+//e3[text()>7 or .//e2]\n(r\n(e3\nAk 2\n(e6\n-9\n)e6\n)e3\n(e7\nAk 4\n(e4\n-5\n)e4\n)e7\n(e7\nAk 9\n(e7\n-7\n)e7\n)e7\n(e6\nAk 6\n(e2\n-5\n)e2\n)e6\n)r\n";
+
 /// Lists of words that are in no form.
-const NO_FORMS: [&[&str]; 6] = [
+const NO_FORMS: [&[&str]; 17] = [
     &[],
     &["feeds"],
     &["match"],
     &["match", "/a", "/b"],
     &["show"],
     &["--help"],
+    &["make"],
+    &["make", "--seed=1", "--filters=2"],
+    &["make", "--seed=1", "--filters=2", "--documents"],
+    &[
+        "make",
+        "--seed=1",
+        "--filters=2",
+        "--documents=1",
+        "--seed=1",
+    ],
+    &["make", "--seed=1", "--filters=2", "--documents=1", "--"],
+    &["make", "--seed=1", "--filters=2", "--documents=1", "--help"],
+    &["make", "--seed=2147483648", "--filters=2", "--documents=1"],
+    &["make", "--seed=1", "--filters=50001", "--documents=1"],
+    &["make", "--seed=1", "--filters=2", "--documents=100001"],
+    &["make", "--seed=1", "--filters=2", "--documents=00000000001"],
+    &["make", "--seed=1", "--filters=2", "--documents", "-1"],
 ];
 
 fn strings(alloc: Global, words: &[&str]) -> Result<Vec<String>, AllocError> {

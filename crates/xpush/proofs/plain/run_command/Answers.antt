@@ -18,3 +18,10 @@ returns-in-Show-clause-output g c = λ t.
     Answers (form command) (g.S.Source.left c.args.source.now) (g.S.Source.left c.args.source.now) (g.K.Sink.held c.args.sink.now)
     (g.K.Sink.held c.show_filter.new.sink) c.show_filter.result in
     subst P (sym c.in-Show.is) (c.show_filter.ensures.output t (g.S.Source.left c.args.source.now))
+
+pub returns-in-Make-clause-output : goal.returns-in-Make-clause-output
+returns-in-Make-clause-output g c = λ t.
+    let P : Command → Type 0 = λ command.
+    Answers (form command) (g.S.Source.left c.args.source.now) (g.S.Source.left c.args.source.now) (g.K.Sink.held c.args.sink.now)
+    (g.K.Sink.held c.make_feed.new.sink) c.make_feed.result in
+    subst P (sym c.in-Make.is) (c.make_feed.ensures.output t (g.S.Source.left c.args.source.now))
