@@ -15,7 +15,7 @@ use std::test::Fail;
 use std::thread;
 
 /// Histories of the numbers of passes. The right answer of each step is the empty set.
-struct Empties;
+pub(crate) struct Empties;
 
 impl Law for Empties {
     type Entry = u64;
@@ -48,8 +48,12 @@ const WIDE: Shape = Shape {
     step_bits: 4,
 };
 
-// A new pass that is inside the bank.
-fn come_in(rt: &impl Abort, shared: &Shared<Empties>, desk: &mut Seat<Empties>) -> Seat<Empties>
+/// A new pass that is inside the bank.
+pub(crate) fn come_in(
+    rt: &impl Abort,
+    shared: &Shared<Empties>,
+    desk: &mut Seat<Empties>,
+) -> Seat<Empties>
     requires table { desk.old.table ≡ shared.now }
     requires banks { 0 < shared.now.shape.banks }
     requires desk { (desk.old.view.past.kind ≡ Desk) × (desk.old.view.past.seen ≡ []) × (desk.old.view.past.made < 65) }
