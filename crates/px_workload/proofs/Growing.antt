@@ -29,3 +29,20 @@ pub after-kept-added : (version : ℕ) (before : List Subscription) (c : Change)
 after-kept-added version before (Adds who f) = refl
 after-kept-added version before (Drops who id) = sym (append-nil _)
 after-kept-added version before (Replaces who id new) = sym (append-nil _)
+
+-- a change that may come last
+pub may_come_last : (version : ℕ) (before : List Subscription) (changes : List Change) (c : Change) (n : ℕ) → n ≡ version + length changes + 1 →
+    AllMayCome version before changes → NamesLive c (live_from version before changes) →
+    live_size (after n (live_from version before changes) c) ≤ 500_000 → AllMayCome version before (changes ++ c ∷ [])
+may_come_last version before [] c n e h names small =
+    let same : n ≡ version + 1 = omega arith in
+    let P : ℕ → Type 0 = λ m. live_size (after m before c) ≤ 500_000 in
+    (names, subst P same small, tt)
+may_come_last version before (x ∷ changes) c n e h names small =
+    (h.0, h.1, may_come_last (version + 1) (after (version + 1) before x) changes c n (omega arith) h.2 names small)
+
+-- the sizes never exceed their limit
+pub stays_small : (version : ℕ) (before : List Subscription) (changes : List Change) → live_size before ≤ 500_000 → AllMayCome version before changes →
+    live_size (live_from version before changes) ≤ 500_000
+stays_small version before [] small h = small
+stays_small version before (x ∷ changes) small h = stays_small (version + 1) (after (version + 1) before x) changes h.1 h.2

@@ -197,3 +197,21 @@ small-slot slots k =
 pub small-copied : (r : Option (Bor Filter)) (slot : Option Filter) (n : ℕ) → option_copied r ≡ slot → slot_size slot ≤ n → IfSome r (λ f. size (whole.filter f.now) ≤ n)
 small-copied None slot n e h = tt
 small-copied (Some f) slot n e h = let P : Option Filter → Type 0 = λ s. slot_size s ≤ n in subst P (sym e) h
+
+-- the sizes when the filter of an id is exchanged
+abbrev found_size : Option Subscription → ℕ
+found_size None = 0
+found_size (Some s) = size s.filter
+
+found_size-named : (id : ℕ) (slot : Option Filter) → found_size (option_map (named id) slot) ≡ slot_size slot
+found_size-named id None = refl
+found_size-named id (Some f) = refl
+
+pub replaced-size : (slots : List (Option Filter)) (id : ℕ) (new old : Filter) → IsLive id (listed slots) → find (is_of id) (listed slots) ≡ Some (named id old) →
+    live_size (kept (Replaces 0 id (whole.filter new)) (listed slots)) + size (whole.filter old) ≡ live_size (listed slots) + size (whole.filter new)
+replaced-size slots id new old h found =
+    let above_0 = live-from-1 slots id h in
+    let within = live-within slots id h in
+    let sums = sum_by-set slot_size slots (id - 1) (Some new) None (omega arith) in
+    let was = sym (found_size-named id (get_or slots (id - 1) None)) ∙ ap found_size (sym (find-at 0 slots (id - 1) id (omega arith)) ∙ found) in
+    omega (arith, sums, was, refilled-size slots id new h, listed-size 0 slots)

@@ -10,7 +10,7 @@ use Rattle.px_workload.specs.Slots.{listed}
 use Rattle.px_workload.specs.Stands.{Stands}
 use Rattle.px_workload.proofs.Growing.{live_from-grows, last_may_come}
 
-one_more : (changes : List Change) (c : Change) → history (changes ++ c ∷ []) ≡ history changes ++ change c ∷ []
+pub one_more : (changes : List Change) (c : Change) → history (changes ++ c ∷ []) ≡ history changes ++ change c ∷ []
 one_more changes c = map-append change changes (c ∷ [])
 
 count : (changes : List Change) (slots : List (Option Filter)) → length slots ≡ length changes → length slots + 1 ≡ 0 + length (history changes) + 1

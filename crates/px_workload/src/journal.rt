@@ -3,6 +3,8 @@
 ghost use Rattle.std.specs.Prelude.{◌≡◌, ◌<◌, ◌≤◌, ◌+◌, ◌++◌, ◌∷◌, [], ℕ, length, IfOk, IfSome, IsSome, IsTrue, ◌↔◌, OnOk};
 ghost use Rattle.std.specs.List.{find};
 ghost use Rattle.px_xpath.specs.Histories as histories;
+ghost use Rattle.px_xpath.specs.Whole as whole;
+ghost use Rattle.px_xpath.specs.declared.filter.Filter.{Filter};
 ghost use Rattle.px_xpath.specs.Subscribed.{subscriptions};
 ghost use Rattle.px_workload.specs.Changes as changes;
 
@@ -54,6 +56,7 @@ impl Journal {
     pub fn reserve(&mut self) -> Result<(), AllocError>
         ensures same { self.new.changes ≡ self.old.changes }
         ensures room { OnOk result (1 ≤ self.new.room) }
+        ensures kept { self.old.room ≤ self.new.room }
     {
         self.table.slots.reserve(1)
     }
@@ -92,10 +95,12 @@ impl Journal {
         self.table.filter_of(id).is_some()
     }
 
-    /// The size of a live filter.
+    /// The size of a live filter. Without it, and with the size of another, the live size is that of
+    /// the workload in which the other takes its place.
     pub fn size_of(&self, id: u32) -> u32
         requires live { histories.IsLive id (histories.live (changes.history self.now.changes)) }
-        ensures { IfSome (find (histories.is_of id) (histories.live (changes.history self.now.changes))) (λ s. result ≡ histories.size s.filter) }
+        ensures size { IfSome (find (histories.is_of id) (histories.live (changes.history self.now.changes))) (λ s. result ≡ histories.size s.filter) }
+        ensures others { (new : Filter) → let live = histories.live (changes.history self.now.changes) in histories.live_size (histories.after 0 live (histories.Replaces 0 id (whole.filter new))) + result ≡ histories.live_size live + histories.size (whole.filter new) }
     {
         match self.table.filter_of(id) {
             Some(filter) => size(filter),
@@ -120,3 +125,6 @@ impl Journal {
         Ok(Live::of(copies_after(alloc, &self.table.slots, change)?))
     }
 }
+
+#[cfg(test)]
+mod tests;

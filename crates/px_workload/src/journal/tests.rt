@@ -1,0 +1,61 @@
+use crate::change::Change;
+use crate::journal::Journal;
+use crate::live::Live;
+use px_xpath::{ParseFault, parse, size};
+use std::alloc::{AllocError, Global};
+use std::test::Fail;
+
+/// Accepts a filter, where the limits allow it.
+fn add(alloc: Global, journal: &mut Journal, text: &[u8]) -> Result<Option<u32>, ParseFault> {
+    let filter = parse(alloc, text)?;
+    journal.reserve()?;
+    let grown = journal.live_size().saturating_add(size(&filter));
+    if grown > 500_000 || journal.version() >= 1_048_575 {
+        return Ok(None);
+    }
+    Ok(Some(journal.append(Change::Add { who: 0, filter })))
+}
+
+/// Drops a filter, where it is live.
+fn drop_out(journal: &mut Journal, id: u32) -> Result<Option<u32>, AllocError> {
+    journal.reserve()?;
+    if !journal.is_live(id) || journal.version() >= 1_048_575 {
+        return Ok(None);
+    }
+    Ok(Some(journal.append(Change::Drop { who: 0, id })))
+}
+
+/// What would be live behind a drop, where its id is live.
+fn behind_drop(alloc: Global, journal: &Journal, id: u32) -> Result<Option<Live>, AllocError> {
+    if !journal.is_live(id) || journal.version() >= 1_048_575 {
+        return Ok(None);
+    }
+    let change = Change::Drop { who: 0, id };
+    Ok(Some(journal.snapshot_after(alloc, &change)?))
+}
+
+/// The id of a list's only filter.
+fn only_id(live: &Live) -> Option<u32> {
+    match live.as_slice() {
+        [only] => Some(only.id),
+        _ => None,
+    }
+}
+
+#[test]
+fn a_dropped_filter_is_live_no_more(rt: HostRuntime) -> Result<(), Fail> {
+    let alloc = rt.alloc();
+    let mut journal = Journal::new(alloc);
+    assert_eq!(rt; add(alloc, &mut journal, b"/a")?, Some(1));
+    assert_eq!(rt; add(alloc, &mut journal, b"/b/c")?, Some(2));
+    assert_eq!(rt; drop_out(&mut journal, 1)?, Some(3));
+    assert_eq!(rt; journal.version(), 3);
+    assert_eq!(rt; journal.live_size(), 2);
+    assert!(rt; !journal.is_live(1));
+    let live = journal.snapshot(alloc)?;
+    assert_eq!(rt; only_id(&live), Some(2));
+    assert_eq!(rt; only_id(&live.copy(alloc)?), Some(2));
+    let behind = behind_drop(alloc, &journal, 2)?;
+    assert!(rt; behind.is_some_and(|live| live.as_slice().is_empty()));
+    Ok(())
+}
