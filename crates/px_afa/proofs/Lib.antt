@@ -18,3 +18,7 @@ pub mod Soundness
 pub mod Counted
 pub mod Parts
 pub mod Dictionaries
+pub mod Newest
+pub mod KnownNames
+pub mod KnownLiterals
+pub mod GroupedLists

@@ -11,19 +11,19 @@ use Rattle.px_afa.specs.Contents.{Kind, ElementKind, AttributeKind, TextKind}
 use Rattle.px_afa.specs.Truth.{state_at, meets, is_element}
 use Rattle.px_afa.specs.Labels.{same_kind, tested, state_name, contains_kind, with_name, names_of, place_of, label_number, kind_at, is_element_kind, is_attribute_kind, is_element_label, label_meets}
 
-same_kind-is : (a b : Kind) → same_kind a b ≡ true → a ≡ b
+pub same_kind-is : (a b : Kind) → same_kind a b ≡ true → a ≡ b
 same_kind-is (ElementKind n) (ElementKind m) h = ap ElementKind ((bytes_eq-Decides n m).0 h)
 same_kind-is (AttributeKind n) (AttributeKind m) h = ap AttributeKind ((bytes_eq-Decides n m).0 h)
 same_kind-is TextKind TextKind h = refl
 same_kind-is _ _ h = cc
 
-same_kind-same : (a : Kind) → same_kind a a ≡ true
+pub same_kind-same : (a : Kind) → same_kind a a ≡ true
 same_kind-same (ElementKind n) = (bytes_eq-Decides n n).1 refl
 same_kind-same (AttributeKind n) = (bytes_eq-Decides n n).1 refl
 same_kind-same TextKind = refl
 
 -- the place of a kind that is there is the kind's own
-place-there : (other i : ℕ) (xs : List Kind) (k : Kind) → contains_kind xs k ≡ true → (i ≤ place_of other i xs k) × (kind_at i xs (place_of other i xs k) ≡ Some k)
+pub place-there : (other i : ℕ) (xs : List Kind) (k : Kind) → contains_kind xs k ≡ true → (i ≤ place_of other i xs k) × (kind_at i xs (place_of other i xs k) ≡ Some k)
 place-there other i [] k h = cc
 place-there other i (x ∷ xs) k h = go (same_kind x k) refl h (place-there other (suc i) xs k)
   where
@@ -38,7 +38,7 @@ place-there other i (x ∷ xs) k h = go (same_kind x k) refl h (place-there othe
         (omega arith, rw not_here r.1)
 
 -- and of one that is not there, the other number
-place-not : (other i : ℕ) (xs : List Kind) (k : Kind) → contains_kind xs k ≡ false → place_of other i xs k ≡ other
+pub place-not : (other i : ℕ) (xs : List Kind) (k : Kind) → contains_kind xs k ≡ false → place_of other i xs k ≡ other
 place-not other i [] k h = refl
 place-not other i (x ∷ xs) k h = go (same_kind x k) h (place-not other (suc i) xs k)
   where
@@ -46,7 +46,7 @@ place-not other i (x ∷ xs) k h = go (same_kind x k) h (place-not other (suc i)
     go true h' ih = cc
     go false h' ih = ih h'
 
-kind_at-low : (i : ℕ) (xs : List Kind) (l : ℕ) → l < i → kind_at i xs l ≡ None
+pub kind_at-low : (i : ℕ) (xs : List Kind) (l : ℕ) → l < i → kind_at i xs l ≡ None
 kind_at-low i [] l h = refl
 kind_at-low i (x ∷ xs) l h = let never : nat_eq l i ≡ false = ne_eqb l i (λ same. omega arith) in rw never (kind_at-low (suc i) xs l (omega arith))
 

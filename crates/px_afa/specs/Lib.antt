@@ -15,3 +15,5 @@ pub mod Counts
 pub mod Numbering
 pub mod Ends
 pub mod Dictionaries
+pub mod Lists
+pub mod Kept

@@ -13,7 +13,10 @@ mod builder;
 mod copies;
 mod dictionary;
 mod filters;
+mod groups;
 mod laws;
+mod literals;
+mod names;
 mod program;
 mod state;
 
