@@ -1,5 +1,9 @@
+pub mod Bools
 pub mod Parts
 pub mod RisingNumbers
 pub mod Unions
 pub mod Masks
 pub mod Popped
+pub mod Accepted
+pub mod ClassRanges
+pub mod TrueValues

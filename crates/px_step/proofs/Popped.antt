@@ -22,6 +22,7 @@ use Rattle.px_afa.proofs.Found.{state_at-below}
 use Rattle.px_step.specs.Popping.{has_body, is_given, is_lasting, lasts, all_guarded}
 use Rattle.px_afa.proofs.Guards.{body-guard-in}
 use Rattle.px_step.proofs.RisingNumbers.{IsSet, states-are}
+use Rattle.px_step.proofs.Bools.{or_joined}
 
 -- a state that a label meets is there
 pub met_there : (states : List State) (label n : ℕ) → is_met (label_at states label) (state_at states n) ≡ true → n < length states
@@ -182,16 +183,13 @@ module _ (states : List State) (label : ℕ) (set : List ℕ) (n : ℕ) where
   has-four : has (gathered states label set) n ≡ four (state_at states n)
   has-four =
       list_any-append (λ m. nat_eq m n) ((all_guarded states p set ++ filter p (unguarded_exactly states label)) ++ filter p (unguarded_loosely states label)) (filter (lasts states label) set)
-      ∙ joined _ _ _ _
+      ∙ or_joined
       (list_any-append (λ m. nat_eq m n) (all_guarded states p set ++ filter p (unguarded_exactly states label)) (filter p (unguarded_loosely states label))
-      ∙ joined _ _ _ _
+      ∙ or_joined
       (list_any-append (λ m. nat_eq m n) (all_guarded states p set) (filter p (unguarded_exactly states label))
-      ∙ joined _ _ _ _ (has-guarded states p set n) one)
+      ∙ or_joined (has-guarded states p set n) one)
       two)
       (has-filter (lasts states label) set n)
-    where
-      joined : (a b a' b' : Bool) → a ≡ a' → b ≡ b' → (a || b) ≡ (a' || b')
-      joined a b a' b' e f = ap (λ z. z || b) e ∙ ap (λ z. a' || z) f
 
   -- nothing but a Path is given
   nothing : (any th h e : Bool) → ((((any && false) || ((th && false) && false)) || ((th && false) && false)) || (h && (e && false))) ≡ (th && false)

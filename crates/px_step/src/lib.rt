@@ -6,11 +6,15 @@
 //! what its sets and the states that they touch ask, never a scan of all states.
 #![tactic(auto)]
 
+mod accepting;
 mod children;
 mod merges;
 mod sorting;
 mod truth;
+mod values;
 
+pub use accepting::accept;
 pub use children::{is_lasting, pop};
 pub use merges::{add, mask};
 pub use sorting::ascending;
+pub use values::{value_number, value_text};
