@@ -1,7 +1,7 @@
 //! Words of facts, and the places at which they are looked for.
-ghost use Rattle.std.specs.Prelude.{◌≡◌, ◌<◌, ◌≤◌};
+ghost use Rattle.std.specs.Prelude.{◌≡◌, ◌%◌, ◌<◌, ◌≤◌};
 ghost use Rattle.px_rule.specs.Kinds.{kind_of};
-ghost use Rattle.px_rule.specs.Words.{node_word as word_of_node, step_word as word_of_step, key_of, IsShape, size_of, path_of, long_of, shows};
+ghost use Rattle.px_rule.specs.Words.{node_word as word_of_node, step_word as word_of_step, key_of, IsShape, size_of, steps_of, path_of, long_of, shows};
 
 use crate::shape::Shape;
 use px_text::Op;
@@ -50,13 +50,21 @@ pub fn place(shape: &Shape, word: u64, i: u32) -> u32
     let b = word >> 20 & 0xf_ffff;
     let start = (kind * 40503 + a * 2_654_435_761 + b * 2_246_822_519) % (1 << 32);
     let nodes = u64::from(shape.node_places());
-    let steps = u64::from(shape.step_places());
     let at = if kind == 1 {
         1 + (start + u64::from(i)) % (nodes - 1)
     } else {
-        nodes + (start + u64::from(i)) % steps
+        nodes + step_turn(shape, start + u64::from(i))
     };
     at as u32
+}
+
+// Which of the step places a path reaches at a number: their count is a power of two, so a mask takes the remainder.
+fn step_turn(shape: &Shape, number: u64) -> u64
+    requires shape { IsShape shape.now }
+    ensures remainder { result ≡ number % steps_of shape.now }
+    ensures within { result < steps_of shape.now }
+{
+    number & u64::from(shape.step_places() - 1)
 }
 
 /// How many places the path of a word has.
