@@ -79,9 +79,8 @@ module _ {E : Type 0} (z : Shape) where
   abbrev pub IsPassed : ℕ → ℕ → View E → Type 0
   IsPassed word turns v = PassedBy z (bank_in v.stay.place) (version_in v.stay.place) word turns v
 
-  -- x is kept at the place of the turn, and has the word's key only where it is the word
-  pub record TryGives (word turn : ℕ) (v w : View E) (p x : ℕ) : Type 0 where
-    pub place : p ≡ path_of z (key_of word) turn
+  -- x is kept at place p of the word's path, and has the word's key only where it is the word
+  pub record TryGives (word : ℕ) (v w : View E) (p x : ℕ) : Type 0 where
     pub kept : KeptAt (bank_in v.stay.place) (version_in v.stay.place) p x w
     pub same : key_of x ≡ key_of word → x ≡ word
     pub node : is_node (key_of word) ≡ true → (0 < p) × (p < nodes_of z)

@@ -6,7 +6,7 @@ ghost use Rattle.px_rule.specs.Kept.{Grew};
 ghost use Rattle.px_intern.specs.Answers.{IsSound, Finds, IsRightStep, WroteOnly, Puts};
 
 use crate::answers::{Find, Put, Sought};
-use crate::paths::{place_in, turns};
+use crate::paths::{first_place, place_after, turns};
 use crate::walk::seek;
 use px_rule::{Law, Seat, Shared, step_word};
 use px_text::Op;
@@ -24,8 +24,8 @@ pub fn find<L: Law>(shared: &Shared<L>, seat: &mut Seat<L>, op: Op, a: u32, b: u
     ensures answer { Finds L.right shared.now.shape op a b seat.old.view seat.new.view result }
 {
     let key = step_word(op, a, b, 0);
+    let mut at = first_place(shared, key);
     for turn in 0..turns(shared, key) {
-        let at = place_in(shared, key, turn);
         let found = shared.look_step(seat, at);
         if found == 0 {
             return Find::Absent;
@@ -33,6 +33,7 @@ pub fn find<L: Law>(shared: &Shared<L>, seat: &mut Seat<L>, op: Op, a: u32, b: u
         if found >> 20 == key >> 20 {
             return Find::Found((found % (1 << 20)) as u32);
         }
+        at = place_after(shared, key, at);
     }
     Find::Absent
 }

@@ -1,6 +1,6 @@
 -- Where the paths of keys lie, and that a set of one element may be written at the beginning of its path.
-use Rattle.std.proofs.Common.{◌≡◌, ℕ, ◌+◌, ◌-◌, ◌/◌, ◌%◌, ◌<◌, ◌≤◌, Bool, true, false, cond, List, [], min, refl, sym, ap, subst, arith, eq-eqb}
-use Rattle.std.proofs.Math.Nat.{mod-lt}
+use Rattle.std.proofs.Common.{◌≡◌, ◌≢◌, ℕ, suc, ◌∙◌, ◌+◌, ◌-◌, ◌/◌, ◌%◌, ◌<◌, ◌≤◌, Bool, true, false, cond, List, [], min, refl, sym, ap, subst, arith, eq-eqb, ne_eqb}
+use Rattle.std.proofs.Math.Nat.{mod-lt, suc-mod, mod_self, mod-eq_of_lt}
 use Rattle.std.proofs.Math.Pow.{pow_mono}
 use Rattle.px_text.specs.declared.op.Op.{Op}
 use Rattle.px_rule.specs.declared.shape.Shape.{Shape}
@@ -65,3 +65,92 @@ module _ {E : Type 0} (right : List E → Op → Operand → Operand → List �
         as_node = λ _. (e, 0, [], some_place, small, omega arith, refl, tt, named 0 [] refl);
         as_step = λ high. absurd (let a : ℕ = nodes_of z in let l : p < a = low in let h : a ≤ p = high in omega arith);
       }
+
+-- the remainder of the next number
+next_turn : (x y m : ℕ) → y ≡ suc x → suc (x % m) < m → y % m ≡ suc (x % m)
+next_turn x y m e low = ap (λ (t : ℕ). t % m) e ∙ (suc-mod x m ∙ mod-eq_of_lt low)
+
+first_turn : (x y m : ℕ) → y ≡ suc x → suc (x % m) ≡ m → y % m ≡ 0
+first_turn x y m e all = ap (λ (t : ℕ). t % m) e ∙ (suc-mod x m ∙ (ap (λ (t : ℕ). t % m) all ∙ mod_self m))
+
+module _ (z : Shape) (key i p : ℕ) (shape : IsShape z) (here : p ≡ path_of z key i) where
+  -- the place at the next turn is one further, and after the last place of its kind the first
+  module _ (is : is_node key ≡ true) where
+    node_here : (j : ℕ) → path_of z key j ≡ 1 + (start_of key + j) % (nodes_of z - 1)
+    node_here j = ap (λ (t : Bool). cond t (1 + (start_of key + j) % (nodes_of z - 1)) (nodes_of z + (start_of key + j) % steps_of z)) is
+
+    pub next_node : p + 1 ≢ nodes_of z → p + 1 ≡ path_of z key (i + 1)
+    next_node not_last =
+        let n : ℕ = nodes_of z in
+        let s : ℕ = start_of key in
+        let wide : 16 ≤ n = (nodes_wide z shape).0 in
+        let r : ℕ = (s + i) % (n - 1) in
+        let at : p ≡ 1 + r = here ∙ node_here i in
+        let less : r < n - 1 = mod-lt (s + i) (omega arith) in
+        let no : p + 1 ≢ n = not_last in
+        let low : suc r < n - 1 = omega arith in
+        let turn : (s + (i + 1)) % (n - 1) ≡ suc r = next_turn (s + i) (s + (i + 1)) (n - 1) (omega arith) low in
+        let there : path_of z key (i + 1) ≡ 1 + suc r = node_here (i + 1) ∙ ap (λ (t : ℕ). 1 + t) turn in
+        let q : ℕ = path_of z key (i + 1) in
+        let there' : q ≡ 1 + suc r = there in
+        let e : p + 1 ≡ q = omega arith in e
+
+    pub first_node : p + 1 ≡ nodes_of z → 1 ≡ path_of z key (i + 1)
+    first_node last =
+        let n : ℕ = nodes_of z in
+        let s : ℕ = start_of key in
+        let wide : 16 ≤ n = (nodes_wide z shape).0 in
+        let r : ℕ = (s + i) % (n - 1) in
+        let at : p ≡ 1 + r = here ∙ node_here i in
+        let is_last : p + 1 ≡ n = last in
+        let all : suc r ≡ n - 1 = omega arith in
+        sym (node_here (i + 1) ∙ ap (λ (t : ℕ). 1 + t) (first_turn (s + i) (s + (i + 1)) (n - 1) (omega arith) all))
+
+  module _ (is : is_node key ≡ false) where
+    step_here : (j : ℕ) → path_of z key j ≡ nodes_of z + (start_of key + j) % steps_of z
+    step_here j = ap (λ (t : Bool). cond t (1 + (start_of key + j) % (nodes_of z - 1)) (nodes_of z + (start_of key + j) % steps_of z)) is
+
+    pub next_step : p + 1 ≢ size_of z → p + 1 ≡ path_of z key (i + 1)
+    next_step not_last =
+        let n : ℕ = nodes_of z in
+        let m : ℕ = steps_of z in
+        let s : ℕ = start_of key in
+        let wide : 16 ≤ m = (steps_wide z shape).0 in
+        let r : ℕ = (s + i) % m in
+        let at : p ≡ n + r = here ∙ step_here i in
+        let less : r < m = mod-lt (s + i) (omega arith) in
+        let no : p + 1 ≢ n + m = not_last in
+        let low : suc r < m = omega arith in
+        let turn : (s + (i + 1)) % m ≡ suc r = next_turn (s + i) (s + (i + 1)) m (omega arith) low in
+        let q : ℕ = path_of z key (i + 1) in
+        let there : q ≡ n + suc r = step_here (i + 1) ∙ ap (λ (t : ℕ). n + t) turn in
+        let e : p + 1 ≡ q = omega arith in e
+
+    pub first_step : p + 1 ≡ size_of z → nodes_of z ≡ path_of z key (i + 1)
+    first_step last =
+        let n : ℕ = nodes_of z in
+        let m : ℕ = steps_of z in
+        let s : ℕ = start_of key in
+        let r : ℕ = (s + i) % m in
+        let at : p ≡ n + r = here ∙ step_here i in
+        let is_last : p + 1 ≡ n + m = last in
+        let all : suc r ≡ m = omega arith in
+        let zero_turn : (s + (i + 1)) % m ≡ 0 = first_turn (s + i) (s + (i + 1)) m (omega arith) all in
+        let q : ℕ = path_of z key (i + 1) in
+        let there : q ≡ n + 0 = step_here (i + 1) ∙ ap (λ (t : ℕ). n + t) zero_turn in
+        let e : n ≡ q = omega arith in e
+
+-- every place of a path is in the bank
+pub path_within : (z : Shape) (key i : ℕ) → IsShape z → path_of z key i < size_of z
+path_within z key i shape = by (is_node key) refl
+  where
+    by : (t : Bool) → is_node key ≡ t → path_of z key i < size_of z
+    by true is = let n : ℕ = nodes_of z in let m : ℕ = steps_of z in let q : ℕ = path_of z key i in let low : q < n = (node_path z key i shape is).1 in let r : q < n + m = omega arith in r
+    by false is = (step_path z key i shape is).1
+
+-- the kind that a word shows is that of its key
+pub shows_node : (w : ℕ) → w / 1152921504606846976 ≡ 1 → is_node (key_of w) ≡ true
+shows_node w e = eq-eqb (key_of w / 1152921504606846976) 1 (omega arith)
+
+pub shows_step : (w : ℕ) → w / 1152921504606846976 ≢ 1 → is_node (key_of w) ≡ false
+shows_step w other = ne_eqb (key_of w / 1152921504606846976) 1 (λ e. other (omega arith))

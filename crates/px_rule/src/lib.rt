@@ -80,4 +80,4 @@ pub use law::Law;
 pub use rule::PushRule;
 pub use shape::Shape;
 pub use shared::{Seat, Shared};
-pub use words::{node_word, path_length, place, stands_at, step_word};
+pub use words::{next_place, node_word, path_length, place, stands_at, step_word};

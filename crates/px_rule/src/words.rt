@@ -1,5 +1,5 @@
 //! Words of facts, and the places at which they are looked for.
-ghost use Rattle.std.specs.Prelude.{◌≡◌, ◌%◌, ◌<◌, ◌≤◌};
+ghost use Rattle.std.specs.Prelude.{◌≡◌, ℕ, ◌+◌, ◌%◌, ◌<◌, ◌≤◌};
 ghost use Rattle.px_rule.specs.Kinds.{kind_of};
 ghost use Rattle.px_rule.specs.Words.{node_word as word_of_node, step_word as word_of_step, key_of, IsShape, size_of, steps_of, path_of, long_of, shows};
 
@@ -56,6 +56,28 @@ pub fn place(shape: &Shape, word: u64, i: u32) -> u32
         nodes + step_turn(shape, start + u64::from(i))
     };
     at as u32
+}
+
+/// The place at the next turn of the path of a word, from the place at a turn: one further, and after the last place of its kind the first.
+pub fn next_place(shape: &Shape, word: u64, place: u32) -> u32
+    requires shape { IsShape shape.now }
+    requires place { place < size_of shape.now }
+    requires path { (i : ℕ) × (place ≡ path_of shape.now (key_of word) i) }
+    ensures next { (i : ℕ) → place ≡ path_of shape.now (key_of word) i → result ≡ path_of shape.now (key_of word) (i + 1) }
+    ensures within { result < size_of shape.now }
+{
+    let places = shape.bank_places();
+    let next = place + 1;
+    if word >> 60 == 1 {
+        if next == shape.node_places() {
+            return 1;
+        }
+        return next;
+    }
+    if next == places {
+        return shape.node_places();
+    }
+    next
 }
 
 // Which of the step places a path reaches at a number: their count is a power of two, so a mask takes the remainder.

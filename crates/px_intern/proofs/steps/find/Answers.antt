@@ -13,7 +13,7 @@ one_later : (a b c t : ℕ) → b ≡ a + t → c ≡ b + 1 → c ≡ a + (t + 1
 one_later a b c t h j = omega arith
 
 pub loop-turn-init : goal.loop-turn-init
-loop-turn-init g c = (refl, grew_same c.args.seat.now.view, (λ j l. absurd (omega arith)), (λ l. absurd (omega arith)), refl, (let t : ℕ = c.args.seat.now.view.touch.touches in let r : t ≡ t + 0 = omega arith in r))
+loop-turn-init g c = (refl, grew_same c.args.seat.now.view, (λ j l. absurd (omega arith)), (λ l. absurd (omega arith)), refl, (let t : ℕ = c.args.seat.now.view.touch.touches in let r : t ≡ t + 0 = omega arith in r), c.first_place-at.ensures.place, c.first_place-at.ensures.within)
 
 pub look_step-found-requires-clause-table : goal.look_step-found-requires-clause-table
 look_step-found-requires-clause-table g c = c.loop-turn.invariant.0 ∙ c.requires.table
@@ -31,18 +31,20 @@ loop-turn-preserved g c =
     let k = bank_in u.stay.place in
     let n = version_in u.stay.place in
     let key = c.step_word-key.result in
-    let p = c.place_in-at.result in
+    let p = c.loop-turn.at in
     let x = c.look_step-found.result in
     let step = looked_at u v w p x i.1.stay c.look_step-found.ensures.view in
     let shown = shown_at g.L.Law.right z u v p x i.1.stay c.look_step-found.ensures.shown in
     let grew = grew_look k n p x v w step in (
       c.look_step-found.ensures.table ∙ i.0,
       grew_trans u v w i.1 grew,
-      passed_more g.L.Law.right z k n key c.loop-turn.turn w x p (passed_grew g.L.Law.right z k n key c.loop-turn.turn v w grew i.2) c.place_in-at.ensures.place
+      passed_more g.L.Law.right z k n key c.loop-turn.turn w x p (passed_grew g.L.Law.right z k n key c.loop-turn.turn v w grew i.2) c.loop-turn.invariant.6
           (kept_look k n p x v w step c.if-found-eq0.false) (apart x key c.if-found-key.false),
       (λ _. c.look_step-found.ensures.sound),
       ap (λ (a : View _). a.touch.wrote) step ∙ i.4,
       one_later u.touch.touches v.touch.touches w.touch.touches c.loop-turn.turn i.5 (ap (λ (a : View _). a.touch.touches) step),
+      c.place_after-at.ensures.next c.loop-turn.turn i.6,
+      c.place_after-at.ensures.within,
     )
 
 pub returns-then-found-eq0-clause-table : goal.returns-then-found-eq0-clause-table
@@ -86,7 +88,7 @@ returns-then-found-eq0-clause-answer g c =
     let k = bank_in u.stay.place in
     let n = version_in u.stay.place in
     let key = c.step_word-key.result in
-    let p = c.place_in-at.result in
+    let p = c.loop-turn.at in
     let x = c.look_step-found.result in
     let t = c.loop-turn.turn in
     let step = looked_at u v w p x i.1.stay c.look_step-found.ensures.view in
@@ -97,8 +99,8 @@ returns-then-found-eq0-clause-answer g c =
       turn = t;
       within = subst (λ (m : ℕ). t < m) c.turns-turn-end.ensures.length c.loop-turn-test.true;
       passed = passed_grew g.L.Law.right z k n key t v w (grew_look k n p x v w step) i.2;
-      gap = (0, gap ∙ ap (λ (q : ℕ). some (record { bank = k; version = n; place = q; touches = w.touch.touches })) c.place_in-at.ensures.place);
-      none_kept = λ q y h. absent g.L.Law.right z k n key t p v shown c.place_in-at.ensures.place i.2 q y (kept_back g.L.Law.right z k n p x q y v w step none h);
+      gap = (0, gap ∙ ap (λ (q : ℕ). some (record { bank = k; version = n; place = q; touches = w.touch.touches })) c.loop-turn.invariant.6);
+      none_kept = λ q y h. absent g.L.Law.right z k n key t p v shown c.loop-turn.invariant.6 i.2 q y (kept_back g.L.Law.right z k n p x q y v w step none h);
     } in
     inl (subst (λ (q : ℕ). Gapped z k n q w) c.step_word-key.ensures.word there)
 
@@ -110,7 +112,7 @@ returns-then-found-key-clause-answer g c =
     let w = c.look_step-found.new.seat.view in
     let k = bank_in u.stay.place in
     let n = version_in u.stay.place in
-    let p = c.place_in-at.result in
+    let p = c.loop-turn.at in
     let x = c.look_step-found.result in
     let step = looked_at u v w p x i.1.stay c.look_step-found.ensures.view in
     let is = whole_step c.args.op c.args.a c.args.b c.step_word-key.result x _ c.requires.fields.0 c.requires.fields.1 c.step_word-key.ensures.word c.if-found-key.true refl in
