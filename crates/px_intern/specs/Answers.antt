@@ -4,7 +4,7 @@ use Rattle.px_text.specs.declared.op.Op.{Op}
 use Rattle.px_rule.specs.declared.shape.Shape.{Shape}
 use Rattle.px_rule.specs.declared.view.View.{View}
 use Rattle.px_text.specs.Operands.{Operand, set_of, first_is_set, second_is_set}
-use Rattle.px_rule.specs.Words.{Small, IsShape, step_word, key_of, is_node, nodes_of, path_of}
+use Rattle.px_rule.specs.Words.{Small, IsShape, step_word, key_of, is_node, nodes_of}
 use Rattle.px_rule.specs.Table.{bank_in, version_in}
 use Rattle.px_rule.specs.Kept.{Wrote, IsAt, KeptAt, PassedBy, KeyBlocked, Gapped, Tells, Sound, SetBlocked, SuffixWord}
 use Rattle.px_intern.specs.Proper.{Proper}

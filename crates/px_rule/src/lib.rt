@@ -46,7 +46,8 @@
 //! and the number of the set of the others. A step word has the operation, its operands and the
 //! number of its answer. A fact is looked for along the path of its key, and is only ever written
 //! to the first empty place, after each earlier place was seen to hold another key. So a set has
-//! one number and a step one word, whoever comes first.
+//! one number and a step one word, whoever comes first. What the words that a seat keeps tell
+//! of sets, steps and full paths stands in `specs/Kept.antt`.
 //!
 //! **The rule.** Ten clauses hold of all words and all views between any two steps of any seats,
 //! whatever the order. They stand one by one in `specs/Clauses.antt`, and a load tells that they held:

@@ -1,6 +1,6 @@
-use Rattle.std.proofs.Common.{rules, ◌≡◌, ◌≢◌, ◌+◌, ◌<◌, ◌∙◌, ℕ, sym, subst}
-use Rattle.px_rule.specs.Words.{key_of, nodes_of, size_of}
-use Rattle.px_rule.proofs.Paths.{next_node, first_node, next_step, first_step, path_within, shows_node, shows_step}
+use Rattle.std.proofs.Common.{◌∙◌, sym}
+use Rattle.px_rule.specs.Words.{key_of}
+use Rattle.px_rule.proofs.Paths.{next_node, first_node, next_step, first_step, shows_node, shows_step}
 use Rattle.px_rule.proofs.words.next_place.Goals as goal
 
 pub returns-then-next-node_places-clause-next : goal.returns-then-next-node_places-clause-next

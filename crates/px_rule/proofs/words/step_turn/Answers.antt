@@ -1,4 +1,4 @@
-use Rattle.std.proofs.Common.{◌≡◌, ◌-◌, ℕ, ap, ◌∙◌, bit_and}
+use Rattle.std.proofs.Common.{◌-◌, ℕ, ap, ◌∙◌, bit_and}
 use Rattle.std.proofs.lemmas.Nat.{and_mask}
 use Rattle.px_rule.proofs.words.step_turn.Goals as goal
 
