@@ -1,6 +1,6 @@
 -- The entries of a relation by their classes, and the Value states that they name.
 use Rattle.std.proofs.Common.{◌≡◌, ℕ, zero, suc, ◌+◌, ◌<◌, ◌≤◌, ◌⊎◌, inl, inr, Bool, true, false, not, ◌||◌, ◌&&◌, cond, List, [], ◌∷◌, ◌++◌, length, take, drop, get_or, filter, map, refl, sym, ◌∙◌, ap, arith, nat_eq, nat_lt, eqb, Some}
-use Rattle.std.specs.Prelude.{slice_get, Result, Ok, Err, IfOk}
+use Rattle.std.specs.Prelude.{slice_get}
 use Rattle.std.specs.List.{list_any}
 use Rattle.std.specs.List.Sorted.{IsNonDecreasingBy}
 use Rattle.std.specs.Ordering.{nat_cmp}
@@ -280,8 +280,3 @@ true-added states r class bound more i j entries lower rest same higher old one 
 
     all : new ≡ ((old ++ A) ++ B) ++ C
     all = rw (a3, a2, a1, wl, we, wh, is_lower, is_same, is_higher) refl
-
--- the same of what was returned
-pub if_ok : {A E X Y : Type 0} (result : Result A E) → IfOk result (λ _. X) → (X → Y) → IfOk result (λ _. Y)
-if_ok (Ok x) h f = f h
-if_ok (Err e) h f = h

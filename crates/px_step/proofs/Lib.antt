@@ -1,4 +1,5 @@
 pub mod Bools
+pub mod Results
 pub mod Parts
 pub mod RisingNumbers
 pub mod Unions

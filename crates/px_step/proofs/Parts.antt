@@ -11,7 +11,7 @@ use Rattle.px_afa.specs.Truth.{state_at}
 use Rattle.px_afa.specs.Sets.{true_in, state_in}
 use Rattle.px_afa.specs.Orders.{IsOrdered, IsStateBelow, IsBodyBelow}
 
-abbrev Agree : ℕ → (ℕ → Bool) → (ℕ → Bool) → Type 0
+abbrev pub Agree : ℕ → (ℕ → Bool) → (ℕ → Bool) → Type 0
 Agree size f g = (p : ℕ) → p < size → f p ≡ g p
 
 all_same : (size : ℕ) (f g : ℕ → Bool) → Agree size f g → (parts : List ℕ) → list_all (λ p. nat_lt p size) parts ≡ true → list_all f parts ≡ list_all g parts
@@ -20,7 +20,7 @@ all_same size f g h (p ∷ parts) b =
     let both = and_parts (nat_lt p size) (list_all (λ q. nat_lt q size) parts) b in
     ap (λ x. x && list_all f parts) (h p (ltb-true p size both.0)) ∙ ap (λ x. g p && x) (all_same size f g h parts both.1)
 
-any_same : (size : ℕ) (f g : ℕ → Bool) → Agree size f g → (parts : List ℕ) → list_all (λ p. nat_lt p size) parts ≡ true → list_any f parts ≡ list_any g parts
+pub any_same : (size : ℕ) (f g : ℕ → Bool) → Agree size f g → (parts : List ℕ) → list_all (λ p. nat_lt p size) parts ≡ true → list_any f parts ≡ list_any g parts
 any_same size f g h [] b = refl
 any_same size f g h (p ∷ parts) b =
     let both = and_parts (nat_lt p size) (list_all (λ q. nat_lt q size) parts) b in
@@ -56,7 +56,7 @@ below-at (t ∷ before) o n s e = go (nat_eq n (length before)) refl e (below-at
         (rw (here, sym is) o.0, omega arith)
     go false h e' ih = let r = ih e' in let l : n < length before = r.1 in (r.0, omega arith)
 
-state_more : (s : State) (a b : ℕ) → a ≤ b → IsStateBelow s a → IsStateBelow s b
+pub state_more : (s : State) (a b : ℕ) → a ≤ b → IsStateBelow s a → IsStateBelow s b
 state_more (state.Path axis asked body.Always) a b le h = tt
 state_more (state.Path axis asked (body.State p)) a b le h = omega arith
 state_more (state.And parts) a b le h = parts_more parts a b le h

@@ -1,7 +1,8 @@
 use Rattle.std.proofs.Common.{rules}
 use Rattle.std.proofs.lemmas.List.Sorted.{IsNonDecreasingBy-drop}
 use Rattle.px_afa.specs.declared.state.Related.{Related}
-use Rattle.px_step.proofs.ClassRanges.{true-added, if_ok, classes-rise}
+use Rattle.px_step.proofs.Results.{if_ok}
+use Rattle.px_step.proofs.ClassRanges.{true-added, classes-rise}
 use Rattle.px_step.proofs.values.add_true.Goals as goal
 
 pub returns : goal.returns

@@ -1,0 +1,4 @@
+pub mod KeptRows
+pub mod NeededParts
+pub mod Pushed
+pub mod FirstSets
