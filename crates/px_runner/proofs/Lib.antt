@@ -6,3 +6,7 @@ pub mod AcceptedIds
 pub mod Below
 pub mod Made
 pub mod Raised
+pub mod Known
+pub mod Texts
+pub mod Moves
+pub mod Taken

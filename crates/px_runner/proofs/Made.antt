@@ -7,7 +7,10 @@ use Rattle.px_afa.specs.declared.state.State.{State}
 use Rattle.px_afa.specs.Steps.{Step, step, answer_of, TakesOperands}
 use Rattle.px_runner.specs.declared.held.Held.{Held}
 use Rattle.px_runner.specs.declared.held.Held.TheVariants.{Plain}
-use Rattle.px_runner.specs.Operands.{AreStates, AreOfProgram, AreOperands}
+use Rattle.px_runner.specs.declared.frame.Frame.{Frame}
+use Rattle.px_runner.specs.Events.{Open}
+use Rattle.px_runner.specs.Frames.{IsOpen}
+use Rattle.px_runner.specs.Operands.{IsLabel, AreStates, AreOfProgram, AreOperands}
 use Rattle.px_runner.specs.Memos.{Keeps, Advances, Makes}
 use Rattle.px_runner.specs.Gives.{Holds, Gives}
 use Rattle.px_runner.proofs.Below.{answers-states}
@@ -37,10 +40,24 @@ pub holds_on : {M : Type 0} {states : M → List State} {stands_for : M → Held
 holds_on {M} {states} {stands_for} {a} {b} {held} {set} k h =
     record { stands = k.stays held set h.stands; states_alone = subst (λ s. AreStates s set) (sym k.same) h.states_alone }
 
+pub is_open_on : {M : Type 0} {states : M → List State} {stands_for : M → Held → List ℕ → Type 0} {a b : M} {frame : Frame} {o : Open} →
+    Keeps states stands_for a b → IsOpen states stands_for a frame o → IsOpen states stands_for b frame o
+is_open_on {M} {states} {stands_for} {a} {b} {frame} {o} k is = record {
+  label = is.label;
+  known = subst (λ s. IsLabel s o.label) (sym k.same) is.known;
+  needed = holds_on k is.needed;
+  gathered = holds_on k is.gathered;
+}
+
 pub err_on : {M A E : Type 0} (states : M → List State) (stands_for : M → Held → List ℕ → Type 0) (a b c : M) (r : Result A E) →
     Keeps states stands_for a b → OnErr r (Keeps states stands_for b c) → OnErr r (Keeps states stands_for a c)
 err_on states stands_for a b c (Ok held) f h = h
 err_on states stands_for a b c (Err e) f h = keeps_on f h
+
+pub kept_err : {M A E : Type 0} (states : M → List State) (stands_for : M → Held → List ℕ → Type 0) (a b : M) (r : Result A E) →
+    Keeps states stands_for a b → OnErr r (Keeps states stands_for a b)
+kept_err states stands_for a b (Ok v) k = tt
+kept_err states stands_for a b (Err e) k = k
 
 module _ {M : Type 0} (states : M → List State) (stands_for : M → Held → List ℕ → Type 0) (tells : M → List Step → List (List ℕ) → Type 0) where
   -- what a memo promises of a step

@@ -48,11 +48,15 @@ after_leaf states opened name value = record {
   outer = opened.outer;
 }
 
-abbrev pub after_start : List State → Opened → (name : List ℕ) → Opened
-after_start states opened name = let label = label_of states (ElementKind name) in record {
+-- an element begins
+abbrev pub begun : List State → Opened → (label : ℕ) → Opened
+begun states opened label = record {
   innermost = record { label = label; needed = push states opened.innermost.needed label; gathered = []; text = [] };
   outer = opened.innermost ∷ opened.outer;
 }
+
+abbrev pub after_start : List State → Opened → (name : List ℕ) → Opened
+after_start states opened name = begun states opened (label_of states (ElementKind name))
 
 -- the document root has no end
 abbrev pub after_end : List State → (child : Open) → (outer : List Open) → Opened

@@ -3,3 +3,4 @@ pub mod Operands
 pub mod Memos
 pub mod Gives
 pub mod Frames
+pub mod Running

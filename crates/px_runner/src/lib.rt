@@ -7,7 +7,9 @@ mod laws;
 mod memo;
 mod ops;
 mod raise;
+mod runner;
 
 pub use held::Held;
 pub use laws::{accepted_are_matches, events_follow_content, pruning_changes_nothing};
 pub use memo::Memo;
+pub use runner::Runner;

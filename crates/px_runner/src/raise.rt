@@ -4,17 +4,18 @@ ghost use Rattle.std.specs.Prelude.{◌≡◌, ℕ, List, [], ◌∷◌, ◌++�
 ghost use Rattle.px_text.specs.declared.op.Op.TheVariants.{Add};
 ghost use Rattle.px_text.specs.Operands.{set_of};
 ghost use Rattle.px_afa.specs.Sets as sets;
-ghost use Rattle.px_afa.specs.Steps.{step, raise_steps};
+ghost use Rattle.px_afa.specs.Steps.{step, value_steps, raise_steps};
 ghost use Rattle.px_runner.specs.Operands.{IsTextClass, IsNumberClass, IsLabel};
 ghost use Rattle.px_runner.specs.Memos.{Keeps, Advances};
 ghost use Rattle.px_runner.specs.Gives.{Holds, Gives, class_values, class_steps, raised};
-ghost use Rattle.px_runner.specs.Events.{Open, with_child};
+ghost use Rattle.px_runner.specs.Events.{Open, with_child, values_in, whole_set, end_steps};
 ghost use Rattle.px_runner.specs.Frames.{IsOpen};
 
 use crate::frame::Frame;
 use crate::held::Held;
 use crate::memo::Memo;
 use crate::ops::{add, mask, pop, value_number, value_text};
+use px_afa::Program;
 use std::alloc::AllocError;
 
 /// The Value states that are true of texts of these classes.
@@ -28,6 +29,20 @@ pub fn values<M: Memo>(memo: &mut M, text: u32, number: u32) -> Result<Held, All
     let text = value_text(memo, text)?;
     let number = value_number(memo, number)?;
     add(memo, &text, &number)
+}
+
+/// The Value states that are true of a text.
+pub fn text_values<M: Memo>(
+    program: &Program,
+    memo: &mut M,
+    text: &[u8],
+) -> Result<Held, AllocError>
+    requires { M.states memo.old ≡ program.now.states }
+    ensures ok { IfOk result (λ held. Gives M.states M.stands_for M.tells memo.old memo.new held
+        (value_steps program.now.states text.now) (values_in program.now.states text.now)) }
+    ensures err { OnErr result (Keeps M.states M.stands_for memo.old memo.new) }
+{
+    values(memo, program.text_class(text), program.number_class(text))
 }
 
 /// What has been gathered after a child with the label and the set, of which only the needed states
@@ -71,4 +86,27 @@ pub fn give<M: Memo>(
     let gathered = raise(memo, &frame.needed, &frame.gathered, set, label)?;
     frame.gathered = gathered;
     Ok(())
+}
+
+/// Gives an element that ends, whose text is given, to its parent.
+pub fn close<M: Memo>(
+    program: &Program,
+    memo: &mut M,
+    child: &Frame,
+    parent: &mut Frame,
+    text: &[u8],
+) -> Result<(), AllocError>
+    requires program { M.states memo.old ≡ program.now.states }
+    requires child { (c : Open) × IsOpen M.states M.stands_for memo.old child.now c }
+    requires parent { (p : Open) × IsOpen M.states M.stands_for memo.old parent.old p }
+    ensures ok { OnOk result ((c p : Open) (said : List ℕ) →
+        IsOpen M.states M.stands_for memo.old child.now c → IsOpen M.states M.stands_for memo.old parent.old p → c.text ≡ text.now →
+        IsOpen M.states M.stands_for memo.new parent.new (with_child program.now.states p (whole_set program.now.states c) c.label said)
+        × Advances M.states M.stands_for M.tells memo.old memo.new (end_steps program.now.states c (p ∷ [])) []) }
+    ensures begins { OnOk result (parent.new.begins ≡ parent.old.begins) }
+    ensures err { OnErr result (Keeps M.states M.stands_for memo.old memo.new) }
+{
+    let values = text_values(program, memo, text)?;
+    let set = add(memo, &child.gathered, &values)?;
+    give(memo, parent, &set, child.label)
 }
