@@ -1,4 +1,5 @@
 pub mod Answering
+pub mod Changing
 pub mod Fronts
 pub mod Lines
 pub mod OptionReading

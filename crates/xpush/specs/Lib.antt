@@ -7,3 +7,4 @@ pub mod OptionRows
 pub mod OptionWords
 pub mod Stops
 pub mod Showing
+pub mod Replying

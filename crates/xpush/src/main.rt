@@ -5,6 +5,7 @@
 //! number of their status.
 #![tactic(auto)]
 
+mod changes;
 mod document;
 mod making;
 mod matching;
