@@ -1,3 +1,4 @@
+pub mod Climbing
 pub mod Growing
 pub mod Legal
 pub mod Listing

@@ -3,6 +3,7 @@
 
 mod change;
 mod journal;
+mod laws;
 mod live;
 mod past;
 mod snapshot;
@@ -10,4 +11,5 @@ mod table;
 
 pub use change::Change;
 pub use journal::Journal;
+pub use laws::live_filters_are_in_order;
 pub use live::Live;

@@ -1,0 +1,10 @@
+use Rattle.std.proofs.Common.{[], arith}
+use Rattle.px_workload.proofs.Climbing.{live-rising}
+use Rattle.px_workload.proofs.Growing.{stays_small}
+use Rattle.px_workload.proofs.laws.live_filters_are_in_order.Goals as goal
+
+pub returns-clause-rising : goal.returns-clause-rising
+returns-clause-rising c history legal = live-rising history legal
+
+pub returns-clause-small : goal.returns-clause-small
+returns-clause-small c history legal = stays_small 0 [] history (omega arith) legal.0
