@@ -32,7 +32,7 @@ use Rattle.px_feed.specs.Cutting.{Leads, Stands, Standing, Cuts, Fails, EndsBy}
 use Rattle.px_feed.specs.Effects.{IsItem, Does, IsFit, DoesFit}
 use Rattle.px_feed.specs.Failures.{failure_at, failure_of}
 use Rattle.px_feed.specs.Gathered.{HasGathered, IsStillOpen}
-use Rattle.px_feed.specs.Items.{Item, Showing, Outside, Skips, Brings, Starts, Misplaced, AtEnd, AtFault, outside, ShowsOutside, ShowsInside, IsFirst, HasNone, IsWhole, Begins, Gives, feed_rank, bytes_in, most_bytes}
+use Rattle.px_feed.specs.Items.{Item, Showing, Stop, IsOpen, between, in_document, Outside, Skips, Brings, Starts, Misplaced, AtEnd, AtFault, outside, ShowsOutside, ShowsInside, IsFirst, HasNone, IsWhole, Begins, Gives, feed_rank, bytes_in, most_bytes}
 use Rattle.px_feed.proofs.Leading.{Opening, leads_skip, leads_bring, leads_document, ended, fails_outside, fails_inside, truncates, opening_push, goes_on, goes_on_all, is_whole_document}
 
 -- a number is not both at most and above
@@ -647,3 +647,16 @@ too_big_fails document lines line given n count s same fits begun big e rest = o
       where
         above : (w i d l c : ℕ) → w ≡ i → d ≡ i → l ≡ c → 16_777_216 < d + c → 16_777_216 < w + l
         above w i d l c p q r t = omega arith
+
+-- the lines so far give whole items, and end between two of them or inside a document
+pub whole_lines : (document : Gathering) (lines : List (List ℕ)) (given : List Item) → Standing document lines given → bytes_in lines ≤ most_bytes →
+    (stop : Stop) × Gives [] lines given stop × IsOpen stop
+whole_lines document lines given s fits = on (placed document lines given s)
+  where
+    on : Placed document lines given → (stop : Stop) × Gives [] lines given stop × IsOpen stop
+    on (outside_them t) = (AtEnd, ended lines given t.leads, between)
+    on (inside_one before inside lines_are t some) =
+        let size : bytes_in before + bytes_in (lines_of inside) ≤ most_bytes = subst (λ n. n ≤ most_bytes) (ap bytes_in lines_are ∙ sum_by-append length before (lines_of inside)) fits in
+        let g = truncates before (lines_of inside) given (length before + length (lines_of inside)) t.leads (some_opening before (lines_of inside) (λ e. some (no_line inside e)) t.begins)
+        (goes_on_all before (lines_of inside) (fine_inside document before inside given t) t.still_open size) refl in
+        (AtFault (length before + length (lines_of inside)) (Doc Truncated), subst (λ ls. Gives [] ls given (AtFault (length before + length (lines_of inside)) (Doc Truncated))) (sym lines_are) g, in_document)

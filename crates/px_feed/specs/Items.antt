@@ -121,7 +121,7 @@ HasItems bytes items stop = Gives [] (lines_of bytes) items stop
 -- the lines end between two items, or inside a document
 pub data IsOpen : Stop → Type 0 where
   between : IsOpen AtEnd
-  inside : {line : ℕ} → IsOpen (AtFault line (Doc Truncated))
+  in_document : {line : ℕ} → IsOpen (AtFault line (Doc Truncated))
 
 -- The items are those whole in the bytes: the line feed of each one's last line is among them. No line that is whole in
 -- the bytes has a fault.

@@ -9,5 +9,8 @@ pub mod Following
 pub mod Gathered
 pub mod Effects
 pub mod Cutting
+pub mod Joining
+pub mod Endings
+pub mod Taking
 pub mod Outputs
 pub mod Rows

@@ -22,7 +22,7 @@ pub struct Cutter {
 }
 
 impl Cutter {
-    ghost use Rattle.std.specs.Prelude.{◌≡◌, ◌<◌, ◌≤◌, ◌+◌, ◌∷◌, [], ◌++◌, List, ℕ, Ok, length, IfOk, IsTrue, IsFalse};
+    ghost use Rattle.std.specs.Prelude.{◌≡◌, ◌<◌, ◌≤◌, ◌+◌, ◌∷◌, [], ◌++◌, List, ℕ, Ok, length, IfOk, OnOk, IsTrue, IsFalse};
     ghost use Rattle.px_reader.specs.Lines.{is_ended, has_no_feed, lines_of, without_end};
     ghost use Rattle.px_feed.specs.Items as items;
     ghost use Rattle.px_feed.specs.Cutting.{HasCut, CutBy, CutsLine, CutsOn, CutsEffect, EndsBy, EndsOn, EndsEffect, Fails};
@@ -48,7 +48,8 @@ impl Cutter {
     /// Takes a line with its line feed: the item that it gives or ends, if there is one.
     pub fn take_line(&mut self, line: &[u8]) -> Result<Option<Item>, Failure>
         requires { IsTrue (is_ended line.now) }
-        ensures { (lines : List (List ℕ)) (given : List items.Item) → HasCut self.old lines given →
+        ensures counted { OnOk result (self.new.extent.bytes ≡ self.old.extent.bytes + length line.now) }
+        ensures cuts { (lines : List (List ℕ)) (given : List items.Item) → HasCut self.old lines given →
             CutBy result self.new (lines ++ line.now ∷ []) given }
     {
         let Some(extent) = self.extent.with_line(line.len()) else {

@@ -8,14 +8,17 @@
 mod cutter;
 mod extent;
 mod fault;
+mod feed;
 mod gathering;
 mod generator;
 mod id;
 mod item;
+mod joiner;
 mod line;
 mod outside;
 mod status;
 
+pub use feed::{Items, Taken};
 pub use generator::generate;
 pub use id::id_of;
 pub use item::Item;

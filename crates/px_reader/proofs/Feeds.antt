@@ -23,7 +23,7 @@ feed_none [] n = refl
 feed_none (b ∷ bytes) n = both_true (head_not b bytes (length bytes) n) (feed_none bytes (tail_no b bytes (length bytes) n))
 
 -- a byte that is no line feed in front of an ended line
-longer : (b : ℕ) (line : List ℕ) → not (b == 10) ≡ true → is_ended line ≡ true → is_ended (b ∷ line) ≡ true
+pub longer : (b : ℕ) (line : List ℕ) → not (b == 10) ≡ true → is_ended line ≡ true → is_ended (b ∷ line) ≡ true
 longer b [] n e = absurd (cc)
 longer b (c ∷ line) n e = both_true n e
 

@@ -53,7 +53,7 @@ take_two (suc n) (b ∷ begun) part =
     let m : suc n - suc (length (take n begun)) ≡ n - length (take n begun) = omega arith in
     ap (λ bs. b ∷ bs) (ap (λ k. take n begun ++ take k part) m ∙ take_two n begun part)
 
-kept_of : (n : ℕ) (kept begun part : List ℕ) → kept ≡ take n begun → kept ++ take (n - length kept) part ≡ take n (begun ++ part)
+pub kept_of : (n : ℕ) (kept begun part : List ℕ) → kept ≡ take n begun → kept ++ take (n - length kept) part ≡ take n (begun ++ part)
 kept_of n kept begun part e = rw e (take_two n begun part)
 
 -- what is kept of a line that goes on

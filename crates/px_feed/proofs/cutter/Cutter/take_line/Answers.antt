@@ -7,8 +7,8 @@ use Rattle.px_feed.specs.Items.{bytes_in, most_bytes}
 use Rattle.px_feed.proofs.Cuttings.{cuts_weaker}
 use Rattle.px_feed.proofs.cutter.Cutter.take_line.Goals as goal
 
-pub returns : goal.returns
-returns c = λ lines given h.
+pub returns-clause-cuts : goal.returns-clause-cuts
+returns-clause-cuts c = λ lines given h.
     let line = c.args.line.now in
     let grown = c.in-Some.ensures.1 in
     let bounded = c.in-Some.extent.bounded in

@@ -1,0 +1,77 @@
+-- What a feed has given, by the bytes that were read of it.
+use Rattle.std.specs.Prelude.{◌≡◌, ℕ, ◌+◌, ◌-◌, ◌⊎◌, List, [], ◌∷◌, ◌++◌, take, drop, Option, Some, None}
+use Rattle.px_io.specs.Flows.{TakesFrom, IsSpent}
+use Rattle.px_feed.specs.declared.feed.Ending.{Ending}
+use Rattle.px_feed.specs.declared.feed.Ending.TheVariants.{End, Fault, ReadFault, Memory}
+use Rattle.px_feed.specs.declared.feed.Items.{Items}
+use Rattle.px_feed.specs.declared.feed.Step.{Step}
+use Rattle.px_feed.specs.declared.feed.Step.TheVariants as step
+use Rattle.px_feed.specs.declared.feed.Taken.{Taken}
+use Rattle.px_feed.specs.declared.feed.Taken.TheVariants as taken
+use Rattle.px_feed.specs.Effects.{IsItem}
+use Rattle.px_feed.specs.Items.{Item, AtEnd, AtFault, HasItems, AreWhole}
+use Rattle.px_feed.specs.Joining.{HasJoined, total}
+
+-- the bytes of the piece that are not taken yet
+abbrev pub unread : Items → List ℕ
+unread items = take (items.end - items.at) (drop items.at items.piece.items)
+
+-- how many bytes are taken, or read at least
+abbrev pub held : Items → ℕ
+held items = total items.joiner + (items.end - items.at)
+
+-- The bytes were read and gave these items, and no answer has ended the feed.
+pub record GoesFurther (items : Items) (bytes : List ℕ) (given : List Item) : Type 0 where
+  pub done : List ℕ
+  pub bytes_are : bytes ≡ done ++ unread items
+  pub joined : HasJoined items.joiner done given
+  pub going : items.ending ≡ None
+
+-- the feed was ended by this answer
+abbrev pub HasEnded : Items → Ending → Type 0
+HasEnded items ending = items.ending ≡ Some ending
+
+-- The bytes were read and gave these items; or they are all that the source had, and there are no more items.
+abbrev pub HasTaken : Items → (left : Option (List ℕ)) → (bytes : List ℕ) → List Item → Type 0
+HasTaken items left bytes given = GoesFurther items bytes given ⊎ (HasEnded items End × IsSpent left × HasItems bytes given AtEnd)
+
+-- Behind these items the feed has ended so.
+abbrev pub Ends : Ending → (left : Option (List ℕ)) → (bytes : List ℕ) → List Item → Type 0
+Ends End left bytes given = IsSpent left × HasItems bytes given AtEnd
+Ends (Fault fault) left bytes given =
+    ((rest : List ℕ) → HasItems (bytes ++ rest) given (AtFault fault.line fault.kind)) ⊎ (IsSpent left × HasItems bytes given (AtFault fault.line fault.kind))
+Ends ReadFault left bytes given = AreWhole bytes given
+Ends Memory left bytes given = Unit {0}
+
+-- what is known behind an answer, by all bytes that were read
+abbrev pub Answers : Taken → Items → (left : Option (List ℕ)) → (bytes : List ℕ) → List Item → Type 0
+Answers (taken.Item item) new left bytes given = (brought : Item) × IsItem item brought × HasTaken new left bytes (given ++ brought ∷ [])
+Answers taken.End new left bytes given = Ends End left bytes given
+Answers (taken.Fault fault) new left bytes given = Ends (Fault fault) left bytes given
+Answers taken.ReadFault new left bytes given = Ends ReadFault left bytes given
+Answers taken.Memory new left bytes given = Unit {0}
+
+-- Some more bytes were read, and the answer is that of all of them.
+abbrev pub TakesBy : Taken → Items → (left after : Option (List ℕ)) → (bytes : List ℕ) → List Item → Type 0
+TakesBy result new left after bytes given = (more : List ℕ) × TakesFrom left more after × Answers result new after (bytes ++ more) given
+
+-- the same of a step
+abbrev pub StepAnswers : Step → Items → (left : Option (List ℕ)) → (bytes : List ℕ) → List Item → Type 0
+StepAnswers (step.Item item) new left bytes given = (brought : Item) × IsItem item brought × HasTaken new left bytes (given ++ brought ∷ [])
+StepAnswers (step.Stop ending) new left bytes given = Ends ending left bytes given
+StepAnswers step.More new left bytes given = GoesFurther new bytes given
+
+abbrev pub StepBy : Step → Items → (left after : Option (List ℕ)) → (bytes : List ℕ) → List Item → Type 0
+StepBy result new left after bytes given = (more : List ℕ) × TakesFrom left more after × StepAnswers result new after (bytes ++ more) given
+
+abbrev pub StepsBy : Step → Items → Items → (left after : Option (List ℕ)) → Type 0
+StepsBy result old new left after = (bytes : List ℕ) (given : List Item) → GoesFurther old bytes given → StepBy result new left after bytes given
+
+-- the same where the whole piece is taken
+abbrev pub Refills : Step → Items → Items → (left after : Option (List ℕ)) → Type 0
+Refills result old new left after = (bytes : List ℕ) (given : List Item) → HasJoined old.joiner bytes given → old.ending ≡ None → StepBy result new left after bytes given
+
+-- and where the bytes are all
+abbrev pub FinishesBy : Step → Items → Items → Type 0
+FinishesBy result old new =
+    (bytes : List ℕ) (given : List Item) (left : Option (List ℕ)) → HasJoined old.joiner bytes given → old.ending ≡ None → IsSpent left → StepAnswers result new left bytes given
