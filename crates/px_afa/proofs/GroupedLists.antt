@@ -1,6 +1,6 @@
 -- How lists under numbers grow.
 use Rattle.std.proofs.Common.{◌≡◌, ℕ, zero, suc, ◌+◌, ◌<◌, ◌≤◌, Bool, true, false, cond, List, [], ◌∷◌, ◌++◌, length, get_or, map, Vec, Option, Some, None, refl, sym, ◌∙◌, ap, arith, nat_eq, append-nil}
-use Rattle.std.specs.Prelude.{slice_get, slice_set}
+use Rattle.std.specs.Prelude.{slice_get, slice_set, IfSome}
 use Rattle.std.specs.Global.{Global}
 use Rattle.std.proofs.lemmas.Bool.{eq-eqb, ne_eqb, eqb-true}
 use Rattle.px_afa.proofs.StateOrder.{both_ways}
@@ -42,9 +42,10 @@ put_at rows lists key k number old new is are less at grown other =
     row_put rows k number old new (omega arith) at grown other
     ∙ (ap (λ ls. row ls other ++ cond (nat_eq other k) (number ∷ []) []) are ∙ ap (λ o. row lists other ++ cond (is_key o other) (number ∷ []) []) (sym is))
 
-pub count_more : (rows : List (Vec ℕ Global)) (empty : Vec ℕ Global) (n : ℕ) → length rows ≡ n → length (rows ++ empty ∷ []) ≡ n + 1
-count_more rows empty n e = go rows n e
-  where
-    go : (rows : List (Vec ℕ Global)) (n : ℕ) → length rows ≡ n → length (rows ++ empty ∷ []) ≡ n + 1
-    go [] n e = omega arith
-    go (r ∷ rows) n e = let ih = go rows (length rows) refl in omega arith
+pub count_more : {X : Type 0} (xs : List X) (x : X) (n : ℕ) → length xs ≡ n → length (xs ++ x ∷ []) ≡ n + 1
+count_more [] x n e = omega arith
+count_more (y ∷ xs) x n e = let ih = count_more xs x (length xs) refl in omega arith
+
+pub within_count : (key : Option ℕ) (a b : ℕ) → a ≡ b → IfSome key (λ k. k < a) → IfSome key (λ k. k < b)
+within_count None a b e h = tt
+within_count (Some k) a b e h = let less : k < a = h in omega arith

@@ -245,3 +245,14 @@ names_room names states n most are less le =
     map_length : (ks : List Kind) → length (map is_element_name ks) ≡ length ks
     map_length [] = refl
     map_length (k ∷ ks) = ap suc (map_length ks)
+
+pub names_few : (names : Names) (states : List State) (most : ℕ) → AreNames names (names_of (newest states)) → length states ≤ most → length names.are_elements.items ≤ most
+names_few names states most are le =
+    let long : length names.are_elements.items ≡ length (names_of (newest states)) = ap length are.are_elements ∙ map_length (names_of (newest states)) in
+    let few = names-few (newest states) in
+    let turned = newest-length states in
+    omega arith
+  where
+    map_length : (ks : List Kind) → length (map is_element_name ks) ≡ length ks
+    map_length [] = refl
+    map_length (k ∷ ks) = ap suc (map_length ks)

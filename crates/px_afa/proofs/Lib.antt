@@ -21,4 +21,7 @@ pub mod Dictionaries
 pub mod Newest
 pub mod KnownNames
 pub mod KnownLiterals
+pub mod Placing
+pub mod GuardTables
+pub mod PathKeeping
 pub mod GroupedLists

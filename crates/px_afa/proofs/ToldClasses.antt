@@ -86,7 +86,7 @@ turned a b e = int_cmp_total.antisymm b a ∙ ap ordering_reverse e
 turned_back : (a b : ℤ) → int_cmp a b ≡ Greater → int_cmp b a ≡ Less
 turned_back a b e = int_cmp_total.antisymm b a ∙ ap ordering_reverse e
 
-less_than : (a b : ℤ) → int_cmp a b ≡ Less → a <ℤ b
+pub less_than : (a b : ℤ) → int_cmp a b ≡ Less → a <ℤ b
 less_than a b e = told (int_cmp a b) (int_ranks a b) e
   where
     told : (o : Ordering) → MatchOrdering o (a <ℤ b) (a ≡ b) (b <ℤ a) → o ≡ Less → a <ℤ b
@@ -104,7 +104,7 @@ mul_less (pos m) (negsuc n) k h l = absurd (omega (arith, ints))
 mul_less (negsuc m) (pos n) k h l = let p : 0 * k < suc m * k = mul-lt-mul_of_pos_right (omega arith) h in omega (arith, ints)
 mul_less (negsuc m) (negsuc n) k h l = let less : suc n < suc m = omega (arith, ints) in let p : suc n * k < suc m * k = mul-lt-mul_of_pos_right less h in omega (arith, ints)
 
-int_cut : (a x y : ℤ) → x <ℤ y → (int_cmp a x ≡ Greater) ⊎ (int_cmp a y ≡ Less)
+pub int_cut : (a x y : ℤ) → x <ℤ y → (int_cmp a x ≡ Greater) ⊎ (int_cmp a y ≡ Less)
 int_cut a x y l = go (int_cmp a x) refl
   where
     above : int_cmp x y ≡ Less
@@ -119,10 +119,10 @@ power_positive : (n : ℕ) → 0 < 10 ^ n
 power_positive zero = omega arith
 power_positive (suc n) = let less = power_positive n in let e : 10 ^ suc n ≡ 10 ^ n * 10 = pow-suc 10 n in omega arith
 
-order_cut : (n : Number) → IsCut (λ units. order n (decimal_of units))
+pub order_cut : (n : Number) → IsCut (λ units. order n (decimal_of units))
 order_cut n c d l = int_cut (n.units *ℤ pos (10 ^ 18)) (c *ℤ pos (10 ^ n.places)) (d *ℤ pos (10 ^ n.places)) (mul_less c d (10 ^ n.places) (power_positive n.places) (less_than c d l))
 
-abbrev AllAbove : ℤ → List ℤ → Type 0
+abbrev pub AllAbove : ℤ → List ℤ → Type 0
 AllAbove x [] = Unit {0}
 AllAbove x (y ∷ ys) = (int_cmp x y ≡ Less) × AllAbove x ys
 

@@ -17,3 +17,5 @@ pub mod Ends
 pub mod Dictionaries
 pub mod Lists
 pub mod Kept
+pub mod Cuts
+pub mod PathKept

@@ -61,3 +61,14 @@ impl Groups {
         }
     }
 }
+
+/// Puts a number at the end of a list, if it is to be there.
+pub fn push_if(list: &mut Vec<u32>, is_wanted: bool, number: u32) -> Result<(), AllocError>
+    ensures pushed { OnOk result (list.new.items ≡ list.old.items ++ cond is_wanted (number ∷ []) []) }
+{
+    if is_wanted {
+        list.push(number)?;
+        return Ok(());
+    }
+    Ok(())
+}

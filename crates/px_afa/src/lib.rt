@@ -10,13 +10,16 @@
 #![tactic(auto)]
 
 mod builder;
+mod constants;
 mod copies;
 mod dictionary;
 mod filters;
 mod groups;
+mod guarding;
 mod laws;
 mod literals;
 mod names;
+mod path_tables;
 mod program;
 mod state;
 
