@@ -4,7 +4,11 @@ use Rattle.px_text.specs.declared.op.Op.{Op}
 use Rattle.px_text.specs.declared.op.Op.TheVariants.{TextClass, NumberClass, Pop, Add, Push, Mask}
 use Rattle.px_text.specs.Operands.{Operand, index, set_of}
 use Rattle.px_afa.specs.declared.state.State.{State}
-use Rattle.px_afa.specs.Sets.{numbers_where, with_number, add}
+use Rattle.px_afa.specs.declared.state.State.TheVariants as state
+use Rattle.px_afa.specs.declared.state.First.{First}
+use Rattle.px_afa.specs.Sets.{numbers_where, with_number, add, first_set}
+use Rattle.px_afa.specs.Accepting.{ArePaths}
+use Rattle.px_afa.proofs.Found.{state_at-below}
 use Rattle.px_afa.specs.Steps.{answer_of}
 use Rattle.px_runner.specs.Operands.{AreBelow, AreStates, AreOfProgram}
 
@@ -63,3 +67,10 @@ answers-states states Push (index n) y h = absurd h
 answers-states states Push (set_of set) (set_of other) h = absurd h
 answers-states states Mask (index n) y h = absurd h
 answers-states states Mask (set_of set) (index n) h = absurd h
+
+-- the first states of a program are states of it
+pub firsts-states : (states : List State) (firsts : List First) → ArePaths states firsts → AreStates states (first_set firsts)
+firsts-states states [] h = tt
+firsts-states states (f ∷ firsts) h =
+    let path = h.0 in
+    with_number-below (length states) f.state (first_set firsts) (state_at-below states f.state (state.Path path.0 path.1 path.2) path.3) (firsts-states states firsts h.1)

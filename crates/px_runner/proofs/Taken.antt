@@ -1,20 +1,30 @@
 -- Each event does what the definitions say.
-use Rattle.std.proofs.Common.{◌≡◌, ℕ, ◌+◌, ◌*◌, ◌≤◌, List, [], ◌∷◌, ◌++◌, length, OnOk, sym, ◌∙◌, ap, arith, subst, length-append, append-nil}
+use Rattle.std.proofs.Common.{◌≡◌, ℕ, ◌+◌, ◌*◌, ◌≤◌, List, [], ◌∷◌, ◌++◌, length, IfOk, OnOk, sym, ◌∙◌, ap, arith, subst, length-append, append-nil}
 use Rattle.std.specs.Prelude.{Result, Ok, Err, Option}
 use Rattle.px_text.specs.declared.op.Op.TheVariants.{Push}
 use Rattle.px_text.specs.Operands.{index, set_of}
 use Rattle.px_reader.specs.declared.event.Event.{Event}
 use Rattle.px_reader.specs.declared.event.Event.TheVariants.{Start, Attr, Text, End}
 use Rattle.px_afa.specs.declared.state.State.{State}
-use Rattle.px_afa.specs.Building.{Automata}
+use Rattle.px_afa.specs.Building.{Automata, program}
 use Rattle.px_afa.specs.Contents.{ElementKind, leaf_kind, leaf_text}
-use Rattle.px_afa.specs.Steps.{Step, step, value_steps, raise_steps, label_of, leaf_steps}
+use Rattle.px_afa.specs.Steps.{Step, step, value_steps, raise_steps, label_of, leaf_steps, run_of}
 use Rattle.px_runner.specs.declared.held.Held.{Held}
 use Rattle.px_runner.specs.declared.runner.Runner.{Runner}
 use Rattle.px_runner.specs.Memos.{Advances}
 use Rattle.px_runner.specs.Events.{Open, Opened, end_steps, with_child, values_in, begun, after_leaf, after_event, event_steps, after_events, events_steps, ground}
-use Rattle.px_runner.specs.Running.{IsAt, HasRun, held_by}
-use Rattle.px_runner.proofs.Fed.{after-append, steps-append}
+use Rattle.px_runner.specs.Running.{IsAt, HasRun, held_by, steps_made}
+use Rattle.px_runner.specs.Gives.{Holds}
+use Rattle.px_runner.specs.Operands.{AreStates}
+use Rattle.px_runner.proofs.AcceptedIds.{accepted-matches}
+use Rattle.px_runner.proofs.Fed.{after-append, steps-append, tree-opened, tree-steps}
+use Rattle.px_text.specs.Nodes.{Root}
+use Rattle.px_reader.specs.Spelling.{events_of}
+use Rattle.px_afa.specs.Contents.{root_content}
+use Rattle.px_afa.specs.Sets.{first_set, accept}
+use Rattle.px_afa.specs.Accepting.{HaveSteps, accepted}
+use Rattle.px_xpath.specs.Histories.{Change, live, matches}
+use Rattle.px_afa.specs.Machine.{machine_of, gathered_of}
 
 module _ {M : Type 0} (states : M → List State) (stands_for : M → Held → List ℕ → Type 0) (tells : M → List Step → List (List ℕ) → Type 0) where
   -- the runner took the event
@@ -109,3 +119,34 @@ module _ {M : Type 0} (states : M → List State) (stands_for : M → Held → L
         },
         there.1,
       )
+
+  -- what the document root has gathered in the end
+  pub ground_holds : (memo : M) (runner : Runner) (automata : Automata) (root : Root) → HasRun states stands_for memo runner automata (events_of root) →
+      Holds states stands_for memo runner.innermost.gathered (gathered_of (machine_of automata.states) (first_set automata.firsts) [] (root_content root))
+  ground_holds memo runner automata root run =
+      subst (λ o. Holds states stands_for memo runner.innermost.gathered o.innermost.gathered) (tree-opened automata root) run.at.inner.gathered
+
+  pub steps_are : (memo : M) (runner : Runner) (automata : Automata) (root : Root) → HasRun states stands_for memo runner automata (events_of root) →
+      steps_made runner ≡ length (run_of automata root)
+  steps_are memo runner automata root run = run.at.steps ∙ ap length (tree-steps automata root)
+
+  -- the ids that are accepted of what the root's value stands for
+  pub finished : {E : Type 0} (memo : M) (runner : Runner) (automata : Automata) (r : Result (List ℕ) E) (found : List ℕ) →
+      ((set : List ℕ) → stands_for memo runner.innermost.gathered set → AreStates (states memo) set → found ≡ set) →
+      IfOk r (λ ids. ids ≡ accept automata.firsts found) →
+      IfOk r (λ ids. (root : Root) → HasRun states stands_for memo runner automata (events_of root) →
+      ids ≡ accepted (machine_of automata.states) automata.firsts (root_content root))
+  finished memo runner automata (Err e) found one h = h
+  finished memo runner automata (Ok ids) found one h = λ root run.
+      let holds = ground_holds memo runner automata root run in
+      h ∙ ap (accept automata.firsts) (one (gathered_of (machine_of automata.states) (first_set automata.firsts) [] (root_content root)) holds.stands holds.states_alone)
+
+  -- and where the program is that of a history, those are its matches
+  pub matched : {E : Type 0} (memo : M) (runner : Runner) (automata : Automata) (r : Result (List ℕ) E) →
+      IfOk r (λ ids. (root : Root) → HasRun states stands_for memo runner automata (events_of root) →
+      ids ≡ accepted (machine_of automata.states) automata.firsts (root_content root)) →
+      IfOk r (λ ids. (history : List Change) (root : Root) → automata ≡ program history → HaveSteps (live history) →
+      HasRun states stands_for memo runner automata (events_of root) → ids ≡ matches history root)
+  matched memo runner automata (Err e) h = h
+  matched memo runner automata (Ok ids) h = λ history root same steps run.
+      h root run ∙ (ap (λ (a : Automata). accepted (machine_of a.states) a.firsts (root_content root)) same ∙ accepted-matches (live history) steps root)

@@ -1,6 +1,6 @@
 //! Laws of the machine, over the definitions alone.
 
-ghost use Rattle.std.specs.Prelude.{◌≡◌, List, [], map, filter};
+ghost use Rattle.std.specs.Prelude.{◌≡◌, List, [], map, filter, length};
 ghost use Rattle.px_text.specs.Nodes.{Root};
 ghost use Rattle.px_reader.specs.Spelling.{events_of};
 ghost use Rattle.px_xpath.specs.Histories.{Subscription, Change, live, matches};
@@ -12,7 +12,11 @@ ghost use Rattle.px_afa.specs.Sets.{first_set};
 ghost use Rattle.px_afa.specs.Machine.{Machine, machine_of, gathered_of};
 ghost use Rattle.px_afa.specs.Accepting.{HaveSteps, accepted, accepted_of_all};
 ghost use Rattle.px_afa.specs.Steps.{run_of};
+ghost use Rattle.px_runner.specs.declared.runner.Runner.{Runner};
+ghost use Rattle.px_runner.specs.Running.{HasRun, steps_made};
 ghost use Rattle.px_runner.specs.Events.{ground, after_events, events_steps};
+
+use crate::memo::Memo;
 
 /// Event by event, the machine makes the steps that the recursion on a document makes, and gathers
 /// at the document root what that gathers. All elements are closed then.
@@ -39,4 +43,10 @@ pub fn accepted_are_matches()
         accepted (machine_of (program history).states) (program history).firsts (root_content root) ≡ matches history root }
     ensures unpruned { (history : List Change) → HaveSteps (live history) → (root : Root) →
         accepted_of_all (machine_of (program history).states) (program history).firsts (root_content root) ≡ matches history root }
+{}
+
+/// When it has taken all events of a document, a runner has made the steps of the run over it.
+pub fn steps_are_counted<M: Memo>()
+    ensures count { (memo : M) (runner : Runner) (automata : Automata) (root : Root) →
+        HasRun M.states M.stands_for memo runner automata (events_of root) → steps_made runner ≡ length (run_of automata root) }
 {}

@@ -10,6 +10,8 @@ mod raise;
 mod runner;
 
 pub use held::Held;
-pub use laws::{accepted_are_matches, events_follow_content, pruning_changes_nothing};
+pub use laws::{
+    accepted_are_matches, events_follow_content, pruning_changes_nothing, steps_are_counted,
+};
 pub use memo::Memo;
 pub use runner::Runner;

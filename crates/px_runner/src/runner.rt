@@ -1,13 +1,22 @@
 //! The machine over the events of a document.
 
-ghost use Rattle.std.specs.Prelude.{◌≡◌, ◌+◌, ◌<◌, ◌^◌, ℕ, List, [], ◌∷◌, ◌++◌, length, OnOk, OnErr};
+ghost use Rattle.std.specs.Prelude.{◌≡◌, ◌+◌, ◌<◌, ◌^◌, ℕ, List, [], ◌∷◌, ◌++◌, length, IfOk, OnOk, OnErr};
 ghost use Rattle.px_text.specs.declared.op.Op.TheVariants.{Push};
 ghost use Rattle.px_text.specs.Operands.{index, set_of};
+ghost use Rattle.px_text.specs.Nodes.{Root};
+ghost use Rattle.px_reader.specs.Spelling.{events_of};
+ghost use Rattle.px_xpath.specs.Histories.{Change, live, matches};
+ghost use Rattle.px_afa.specs.Building as afa;
+ghost use Rattle.px_afa.specs.Contents.{root_content};
+ghost use Rattle.px_afa.specs.Sets.{first_set};
+ghost use Rattle.px_afa.specs.Machine.{machine_of};
+ghost use Rattle.px_afa.specs.Accepting.{HaveSteps, accepted};
 ghost use Rattle.px_afa.specs.Steps.{step, value_steps, raise_steps};
 ghost use Rattle.px_reader.specs.declared.event.Event.{Event as Happened};
-ghost use Rattle.px_runner.specs.Operands.{IsLabel};
+ghost use Rattle.px_runner.specs.Operands.{IsLabel, AreStates};
 ghost use Rattle.px_runner.specs.Memos.{Keeps, Advances};
 ghost use Rattle.px_runner.specs.Events.{Opened, with_child, values_in, begun, after_end, end_steps, after_event, event_steps, after_events, ground};
+ghost use Rattle.px_runner.specs.Frames.{IsOpen};
 ghost use Rattle.px_runner.specs.Running.{IsAt, HasRun, held_by, steps_made};
 
 use crate::frame::Frame;
@@ -15,9 +24,11 @@ use crate::memo::Memo;
 use crate::ops::push;
 use crate::raise::{close, give, text_values};
 use px_afa::Program;
+use px_prune::first;
 use px_reader::Event;
-use px_text::Set;
-use std::alloc::AllocError;
+use px_step::accept;
+use px_text::{Ids, Set};
+use std::alloc::{AllocError, Global};
 use std::mem;
 
 /// The machine of a program in the midst of a document.
@@ -35,6 +46,52 @@ pub struct Runner {
 }
 
 impl Runner {
+    /// A runner before the first event of a document.
+    pub fn new<M: Memo>(
+        alloc: Global,
+        program: &Program,
+        memo: &mut M,
+    ) -> Result<Runner, AllocError>
+        requires program { M.states memo.old ≡ program.now.states }
+        ensures ok { IfOk result (λ runner. HasRun M.states M.stands_for memo.new runner program.now []) }
+        ensures held { IfOk result (λ runner. Advances M.states M.stands_for M.tells memo.old memo.new [] (first_set program.now.firsts ∷ [] ∷ [])) }
+        ensures err { OnErr result (Keeps M.states M.stands_for memo.old memo.new) }
+    {
+        program.sound();
+        let none = Set::empty(alloc);
+        let firsts = first(alloc, program)?;
+        let innermost = ground_frame(memo, &firsts, &none)?;
+        Ok(Runner {
+            innermost,
+            outer: Vec::new(alloc),
+            text: Vec::new(alloc),
+            none,
+            steps: 0,
+        })
+    }
+
+    /// The ids of the filters that hold of the document, rising, when all its events have been
+    /// taken.
+    pub fn finish<M: Memo>(
+        self,
+        alloc: Global,
+        program: &Program,
+        memo: &mut M,
+    ) -> Result<Ids, AllocError>
+        requires program { M.states memo.old ≡ program.now.states }
+        requires whole { (root : Root) × HasRun M.states M.stands_for memo.old self program.now (events_of root) }
+        ensures accepted { IfOk result (λ ids. (root : Root) → HasRun M.states M.stands_for memo.old self program.now (events_of root) →
+            ids ≡ accepted (machine_of program.now.states) program.now.firsts (root_content root)) }
+        ensures matches { IfOk result (λ ids. (history : List Change) (root : Root) →
+            program.now ≡ afa.program history → HaveSteps (live history) → HasRun M.states M.stands_for memo.old self program.now (events_of root) →
+            ids ≡ matches history root) }
+        ensures ok { IfOk result (λ ids. Advances M.states M.stands_for M.tells memo.old memo.new [] []) }
+        ensures err { OnErr result (Keeps M.states M.stands_for memo.old memo.new) }
+    {
+        let gathered = memo.set_of(&self.innermost.gathered)?;
+        accept(alloc, program, &gathered)
+    }
+
     /// How many steps it made. It takes no memory.
     pub fn steps(&self) -> u64
         ensures count { result ≡ steps_made self.now }
@@ -156,4 +213,23 @@ impl Runner {
         self.steps += 7;
         Ok(())
     }
+}
+
+// The document root before the first event.
+fn ground_frame<M: Memo>(memo: &mut M, firsts: &Set, none: &Set) -> Result<Frame, AllocError>
+    requires firsts { AreStates (M.states memo.old) firsts.now }
+    requires none { none.now ≡ [] }
+    ensures open { IfOk result (λ frame. IsOpen M.states M.stands_for memo.new frame (record { label = 0; needed = firsts.now; gathered = []; text = [] })) }
+    ensures begins { IfOk result (λ frame. frame.begins ≡ 0) }
+    ensures held { IfOk result (λ frame. Advances M.states M.stands_for M.tells memo.old memo.new [] (firsts.now ∷ [] ∷ [])) }
+    ensures err { OnErr result (Keeps M.states M.stands_for memo.old memo.new) }
+{
+    let needed = memo.hold(firsts)?;
+    let gathered = memo.hold(none)?;
+    Ok(Frame {
+        label: 0,
+        needed,
+        gathered,
+        begins: 0,
+    })
 }
