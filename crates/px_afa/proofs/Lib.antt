@@ -25,3 +25,4 @@ pub mod Placing
 pub mod GuardTables
 pub mod PathKeeping
 pub mod GroupedLists
+pub mod FirstIds

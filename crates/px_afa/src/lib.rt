@@ -14,6 +14,7 @@ mod constants;
 mod copies;
 mod dictionary;
 mod filters;
+mod first_ids;
 mod groups;
 mod guarding;
 mod laws;
