@@ -24,5 +24,6 @@ pub mod KnownLiterals
 pub mod Placing
 pub mod GuardTables
 pub mod PathKeeping
+pub mod Relating
 pub mod GroupedLists
 pub mod FirstIds

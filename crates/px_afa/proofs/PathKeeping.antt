@@ -31,7 +31,7 @@ map_next f xs n x less is = let e : n + 1 ≡ suc n = omega arith in rw e (go xs
     go (y ∷ ys) zero l e = ap (λ z. f z ∷ []) (sym e)
     go (y ∷ ys) (suc m) l e = ap (λ rest. f y ∷ rest) (go ys m (omega arith) e)
 
-get_map : {A B : Type 0} (f : A → B) (xs : List A) (n : ℕ) → slice_get (map f xs) n ≡ option_map f (slice_get xs n)
+pub get_map : {A B : Type 0} (f : A → B) (xs : List A) (n : ℕ) → slice_get (map f xs) n ≡ option_map f (slice_get xs n)
 get_map f [] n = refl
 get_map f (x ∷ xs) zero = refl
 get_map f (x ∷ xs) (suc n) = get_map f xs n

@@ -19,3 +19,4 @@ pub mod Lists
 pub mod Kept
 pub mod Cuts
 pub mod PathKept
+pub mod ValueKept

@@ -23,6 +23,7 @@ mod names;
 mod path_tables;
 mod program;
 mod state;
+mod value_tables;
 
 pub use laws::{
     first_states_are_right, guards_are_in_sets, labels_and_classes_are_small,

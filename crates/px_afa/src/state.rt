@@ -34,7 +34,7 @@ pub struct First {
 }
 
 /// A Value state that compares with a number, with the class of its number.
-#[derive(Clone, Copy, Debug, Drop, PartialEq, Eq)]
+#[derive(Clone, Copy, Debug, Drop, PartialEq, Eq, PartialOrd, Ord)]
 pub struct Related {
     pub class: u32,
     pub state: u32,
