@@ -1,5 +1,5 @@
 -- How the filters of first states are found.
-use Rattle.std.proofs.Common.{◌≡◌, ℕ, zero, suc, ◌+◌, ◌<◌, ◌||◌, Bool, true, false, cond, List, [], ◌∷◌, ◌++◌, length, take, get_or, Option, Some, None, refl, sym, ◌∙◌, ap, arith, nat_eq}
+use Rattle.std.proofs.Common.{◌≡◌, ℕ, zero, suc, ◌+◌, ◌<◌, ◌||◌, Bool, true, false, cond, List, [], ◌∷◌, ◌++◌, length, take, get_or, Some, refl, sym, ◌∙◌, ap, arith, nat_eq}
 use Rattle.std.specs.Prelude.{slice_get}
 use Rattle.px_afa.specs.declared.state.State.{State}
 use Rattle.px_afa.specs.declared.state.First.{First}
@@ -9,7 +9,6 @@ use Rattle.px_afa.specs.Accepting.{ArePaths}
 use Rattle.px_afa.specs.Lists.{row, is_key}
 use Rattle.px_afa.specs.Sets.{accept}
 use Rattle.px_text.specs.Sets.{has}
-use Rattle.px_afa.proofs.StatesByNumber.{newest-length}
 use Rattle.px_afa.proofs.GuardTables.{newest_get}
 
 -- a filter at the end

@@ -1,6 +1,6 @@
 -- How lists under numbers grow.
-use Rattle.std.proofs.Common.{◌≡◌, ℕ, zero, suc, ◌+◌, ◌<◌, ◌≤◌, Bool, true, false, cond, List, [], ◌∷◌, ◌++◌, length, get_or, map, Vec, Option, Some, None, refl, sym, ◌∙◌, ap, arith, nat_eq, append-nil}
-use Rattle.std.specs.Prelude.{slice_get, slice_set, IfSome}
+use Rattle.std.proofs.Common.{◌≡◌, ℕ, zero, suc, ◌+◌, ◌<◌, false, cond, List, [], ◌∷◌, ◌++◌, length, get_or, Vec, Option, Some, None, refl, sym, ◌∙◌, ap, arith, nat_eq, append-nil}
+use Rattle.std.specs.Prelude.{slice_set, IfSome}
 use Rattle.std.specs.Global.{Global}
 use Rattle.std.proofs.lemmas.Bool.{eq-eqb, ne_eqb, eqb-true}
 use Rattle.px_afa.proofs.StateOrder.{both_ways}

@@ -8,7 +8,7 @@ use Rattle.px_afa.specs.declared.state.Body.TheVariants as bodies
 use Rattle.px_afa.specs.declared.state.State.{State}
 use Rattle.px_afa.specs.declared.state.State.TheVariants as state
 use Rattle.px_afa.specs.Truth.{state_at}
-use Rattle.px_afa.specs.Building.{newest, newest_onto}
+use Rattle.px_afa.specs.Building.{newest}
 use Rattle.px_afa.specs.Tables.{rarer, is_rare, guard_of_parts, guard_state, guard_of, body_guard}
 use Rattle.px_afa.specs.Lists.{flat}
 use Rattle.px_afa.specs.Kept.{AreGuards}

@@ -1,5 +1,5 @@
 -- How a table of literals grows.
-use Rattle.std.proofs.Common.{◌≡◌, ℕ, zero, suc, ◌+◌, ◌<◌, ◌≤◌, Bool, true, false, ◌||◌, cond, List, [], ◌∷◌, ◌++◌, length, take, Option, Some, None, refl, sym, ◌∙◌, ap, subst, arith}
+use Rattle.std.proofs.Common.{◌≡◌, ℕ, suc, ◌+◌, ◌<◌, ◌≤◌, Bool, true, false, ◌||◌, cond, List, [], ◌∷◌, ◌++◌, length, take, Option, Some, None, refl, sym, ◌∙◌, ap, subst, arith}
 use Rattle.std.specs.Prelude.{unwrap_or, bytes_eq}
 use Rattle.std.specs.List.{list_any}
 use Rattle.std.proofs.lemmas.List.{length-take-le}
@@ -9,7 +9,7 @@ use Rattle.px_afa.specs.declared.literals.Literals.{Literals}
 use Rattle.px_afa.specs.Building.{newest}
 use Rattle.px_afa.specs.Classes.{class_of_text, with_literal, literals_of}
 use Rattle.px_afa.specs.Dictionaries.{found}
-use Rattle.px_afa.specs.Kept.{AreLiterals, known_class}
+use Rattle.px_afa.specs.Kept.{AreLiterals}
 use Rattle.px_afa.proofs.KnownNames.{turned}
 use Rattle.px_afa.proofs.StatesByNumber.{newest-length}
 use Rattle.px_afa.proofs.Sizes.{literals-few}

@@ -1,14 +1,14 @@
 -- How a table of names grows.
-use Rattle.std.proofs.Common.{◌≡◌, ℕ, zero, suc, ◌+◌, ◌-◌, ◌<◌, ◌≤◌, ◌⊎◌, inl, inr, Bool, true, false, not, ◌||◌, cond, List, [], ◌∷◌, ◌++◌, length, map, take, Option, Some, None, refl, sym, ◌∙◌, ap, subst, arith, nat_eq, nat_lt}
-use Rattle.std.specs.Prelude.{slice_get, unwrap_or, option_map, bytes_eq}
-use Rattle.std.proofs.lemmas.Bool.{or_left, lt-ltb, le-ltb, ne_eqb, eqb-true, eqb-false, ltb-true, ltb-false}
+use Rattle.std.proofs.Common.{◌≡◌, ℕ, suc, ◌+◌, ◌-◌, ◌<◌, ◌≤◌, ◌⊎◌, inl, inr, Bool, true, false, not, ◌||◌, cond, List, [], ◌∷◌, ◌++◌, length, map, take, Option, Some, None, refl, sym, ◌∙◌, ap, subst, arith, nat_eq, nat_lt}
+use Rattle.std.specs.Prelude.{slice_get, unwrap_or, bytes_eq}
+use Rattle.std.proofs.lemmas.Bool.{ne_eqb, eqb-true, eqb-false, ltb-true, ltb-false}
 use Rattle.std.proofs.lemmas.Slice.Eq.{bytes_eq-Decides}
 use Rattle.std.proofs.lemmas.List.{length-take-le}
 use Rattle.px_afa.specs.declared.state.State.{State}
 use Rattle.px_afa.specs.declared.names.Names.{Names}
 use Rattle.px_afa.specs.Building.{newest}
-use Rattle.px_afa.specs.Contents.{Kind, ElementKind, AttributeKind, TextKind}
-use Rattle.px_afa.specs.Labels.{names_of, same_kind, contains_kind, with_name, place_of, label_number, kind_at, is_element_kind, is_attribute_kind, is_element_label, is_attribute_label}
+use Rattle.px_afa.specs.Contents.{Kind, ElementKind, AttributeKind}
+use Rattle.px_afa.specs.Labels.{names_of, same_kind, contains_kind, with_name, place_of, label_number, kind_at, is_element_label, is_attribute_label}
 use Rattle.px_afa.specs.Dictionaries.{found}
 use Rattle.px_afa.specs.Kept.{AreNames, known_label, is_element_name, is_attribute_name, flag_at}
 use Rattle.px_afa.proofs.ToldLabels.{same_kind-is, same_kind-same, place-not, kind_at-low}

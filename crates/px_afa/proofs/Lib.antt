@@ -25,5 +25,6 @@ pub mod Placing
 pub mod GuardTables
 pub mod PathKeeping
 pub mod Relating
+pub mod FirstsListed
 pub mod GroupedLists
 pub mod FirstIds

@@ -1,11 +1,9 @@
 -- The states up to a number, newest first, as a loop comes to them.
-use Rattle.std.proofs.Common.{◌≡◌, ℕ, zero, suc, ◌+◌, ◌<◌, ◌≤◌, List, [], ◌∷◌, ◌++◌, length, get_or, take, Option, Some, None, refl, sym, ◌∙◌, ap, arith}
-use Rattle.std.specs.Prelude.{slice_get}
+use Rattle.std.proofs.Common.{◌≡◌, ℕ, zero, suc, ◌+◌, ◌<◌, ◌≤◌, List, [], ◌∷◌, ◌++◌, length, get_or, take, sym, ◌∙◌, ap, arith}
 use Rattle.std.proofs.lemmas.List.{take_all}
 use Rattle.px_afa.specs.declared.state.State.{State}
-use Rattle.px_afa.specs.Truth.{state_at}
 use Rattle.px_afa.specs.Building.{newest}
-use Rattle.px_afa.proofs.StatesByNumber.{newest-end, newest-length}
+use Rattle.px_afa.proofs.StatesByNumber.{newest-end}
 
 take_more : (states : List State) (n : ℕ) (x : State) → n < length states → x ≡ get_or states n x → take (suc n) states ≡ take n states ++ x ∷ []
 take_more [] n x less is = absurd (omega arith)

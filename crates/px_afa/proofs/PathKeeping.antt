@@ -1,8 +1,7 @@
 -- How the tables of Path states grow, and what is found in them.
-use Rattle.std.proofs.Common.{◌≡◌, ℕ, zero, suc, ◌+◌, ◌<◌, ◌≤◌, ◌&&◌, ◌||◌, Bool, true, false, cond, List, [], ◌∷◌, ◌++◌, length, map, take, get_or, Option, Some, None, refl, sym, ◌∙◌, ap, arith, nat_eq, append-nil}
+use Rattle.std.proofs.Common.{◌≡◌, ℕ, zero, suc, ◌+◌, ◌<◌, ◌&&◌, ◌||◌, Bool, true, false, cond, List, [], ◌∷◌, ◌++◌, length, map, take, get_or, Option, Some, None, refl, sym, ◌∙◌, ap, arith, nat_eq, append-nil}
 use Rattle.std.specs.Prelude.{slice_get, option_map, IfSome}
 use Rattle.std.proofs.lemmas.Bool.{eqb-true}
-use Rattle.px_xpath.specs.declared.filter.Test.{Test}
 use Rattle.px_xpath.specs.declared.filter.Test.TheVariants as test
 use Rattle.px_afa.specs.declared.state.Body.{Body}
 use Rattle.px_afa.specs.declared.state.State.{State}
@@ -14,10 +13,10 @@ use Rattle.px_afa.specs.Contents.{Kind, ElementKind, AttributeKind}
 use Rattle.px_afa.specs.Truth.{state_at}
 use Rattle.px_afa.specs.Building.{newest}
 use Rattle.px_afa.specs.Sets.{numbers_where}
-use Rattle.px_afa.specs.Labels.{names_of, label_number, label_in, label_at, kind_at, is_element_kind, is_attribute_kind, is_element_label, is_attribute_label}
+use Rattle.px_afa.specs.Labels.{names_of, label_number, label_in, kind_at, is_element_kind, is_element_label, is_attribute_label}
 use Rattle.px_afa.specs.Lists.{row, is_key}
-use Rattle.px_afa.specs.Tables.{is_met, body_guard, is_under, is_none, tests_exactly, is_unguarded, tests_any_element, tests_any_attribute, tests_loosely, unguarded_loosely, states_where}
-use Rattle.px_afa.specs.PathKept.{met_by, met_of, known, met_at, ArePathTables}
+use Rattle.px_afa.specs.Tables.{is_met, body_guard, is_under, tests_exactly, is_unguarded, tests_any_element, tests_any_attribute, unguarded_loosely, states_where}
+use Rattle.px_afa.specs.PathKept.{met_of, known, met_at, ArePathTables}
 use Rattle.px_afa.proofs.StatesByNumber.{newest-at, newest-length}
 use Rattle.px_afa.proofs.Sizes.{label-few}
 use Rattle.px_afa.proofs.ToldLabels.{kind_at-low}

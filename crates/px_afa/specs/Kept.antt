@@ -1,6 +1,5 @@
 -- What the tables of a program keep.
-use Rattle.std.specs.Prelude.{◌≡◌, ℕ, ◌+◌, ◌-◌, Bool, true, false, not, cond, List, [], ◌∷◌, length, map, Option, Some, None, Vec, unwrap_or, nat_eq, nat_lt, slice_get, bytes_eq}
-use Rattle.std.specs.Global.{Global}
+use Rattle.std.specs.Prelude.{◌≡◌, ℕ, ◌-◌, Bool, not, cond, List, length, map, Option, Some, None, nat_lt, slice_get, bytes_eq}
 use Rattle.std.specs.List.{list_any}
 use Rattle.px_xpath.specs.declared.filter.Value.{Value}
 use Rattle.px_xpath.specs.declared.filter.Value.TheVariants.{Number, Literal}

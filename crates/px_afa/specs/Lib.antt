@@ -20,3 +20,5 @@ pub mod Kept
 pub mod Cuts
 pub mod PathKept
 pub mod ValueKept
+pub mod Firsts
+pub mod ProgramKept

@@ -1,5 +1,5 @@
 -- What the tables of Path states keep.
-use Rattle.std.specs.Prelude.{◌≡◌, ℕ, ◌&&◌, List, map, Option, Some, None, slice_get}
+use Rattle.std.specs.Prelude.{◌≡◌, ℕ, ◌&&◌, List, Option, Some, None, slice_get}
 use Rattle.px_xpath.specs.declared.filter.Test.{Test}
 use Rattle.px_xpath.specs.declared.filter.Test.TheVariants as test
 use Rattle.px_afa.specs.declared.state.State.{State}

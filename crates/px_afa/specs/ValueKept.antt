@@ -1,5 +1,5 @@
 -- What the tables of Value states keep.
-use Rattle.std.specs.Prelude.{◌≡◌, ℕ, Bool, true, false, List, map, Option, Some, unwrap_or, slice_get}
+use Rattle.std.specs.Prelude.{◌≡◌, ℕ, Bool, true, false, List, map, Some, unwrap_or, slice_get}
 use Rattle.px_xpath.specs.declared.filter.Relation.{Relation}
 use Rattle.px_xpath.specs.declared.filter.Relation.TheVariants as relation
 use Rattle.px_xpath.specs.declared.filter.Value.{Value}

@@ -155,7 +155,7 @@ fn body_of(alloc: Global, builder: &mut Builder, parts: &[u32]) -> Result<Body, 
 }
 
 /// The one part of a path that has a step or an end.
-fn only(part: Option<u32>) -> u32
+pub fn only(part: Option<u32>) -> u32
     requires some { length (option_to_list part) ≡ 1 }
     ensures it { option_to_list part ≡ result ∷ [] }
 {

@@ -18,6 +18,7 @@ mod first_ids;
 mod groups;
 mod guarding;
 mod laws;
+mod listing;
 mod literals;
 mod names;
 mod path_tables;

@@ -1,8 +1,7 @@
-use Rattle.std.proofs.Common.{◌≡◌, ◌≤◌, ◌+◌, ◌∙◌, ◌&&◌, sym, length, arith}
+use Rattle.std.proofs.Common.{◌≡◌, ◌≤◌, ◌∙◌, ◌&&◌, length, arith}
 use Rattle.px_afa.specs.Building.{newest}
 use Rattle.px_afa.specs.Labels.{names_of}
 use Rattle.px_afa.specs.Tables.{is_unguarded, tests_exactly}
-use Rattle.px_afa.proofs.GroupedLists.{within_count}
 use Rattle.px_afa.proofs.KnownNames.{names_few}
 use Rattle.px_afa.proofs.PathKeeping.{row_next, rows_all}
 use Rattle.px_afa.proofs.path_tables.exactly.Goals as goal

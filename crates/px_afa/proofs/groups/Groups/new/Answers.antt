@@ -1,4 +1,4 @@
-use Rattle.std.proofs.Common.{[], ◌++◌, ◌∷◌, ◌∙◌, ap}
+use Rattle.std.proofs.Common.{◌∙◌, ap}
 use Rattle.px_afa.specs.Lists.{lists_of, row}
 use Rattle.px_afa.proofs.GroupedLists.{count_more, row_more}
 use Rattle.px_afa.proofs.groups.Groups.new.Goals as goal

@@ -1,4 +1,4 @@
-use Rattle.std.proofs.Common.{◌<◌, length, take, refl, sym, ap, subst, arith}
+use Rattle.std.proofs.Common.{◌<◌, length, refl, sym, ap, subst, arith}
 use Rattle.px_afa.specs.Kept.{AreNames}
 use Rattle.px_afa.specs.Labels.{names_of}
 use Rattle.px_afa.proofs.KnownNames.{names_room}
