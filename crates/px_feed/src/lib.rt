@@ -24,3 +24,6 @@ pub use id::id_of;
 pub use item::Item;
 pub use line::{FeedFault, FeedKind, OutLine, line_of};
 pub use status::Status;
+
+#[cfg(test)]
+mod tests;

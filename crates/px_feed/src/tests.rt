@@ -1,0 +1,103 @@
+//! A few feeds, read to their ends.
+
+use crate::feed::{Items, Taken};
+use crate::item::Item;
+use crate::line::{FeedFault, FeedKind};
+use px_io::MemSource;
+use px_reader::DocKind;
+use px_text::Bytes;
+use std::test::Fail;
+
+fn adds(taken: &Taken, text: &[u8]) -> bool {
+    match taken {
+        Taken::Item(Item::Add { text: found }) => found.as_slice() == text,
+        _ => false,
+    }
+}
+
+fn removes(taken: &Taken, text: &[u8]) -> bool {
+    match taken {
+        Taken::Item(Item::Remove { text: found }) => found.as_slice() == text,
+        _ => false,
+    }
+}
+
+fn replaces(taken: &Taken, id: &[u8], text: &[u8]) -> bool {
+    match taken {
+        Taken::Item(
+            Item::Replace {
+                id: named,
+                text: found,
+            },
+        ) => { named.as_slice() == id && found.as_slice() == text }
+        _ => false,
+    }
+}
+
+fn shows(taken: &Taken, bytes: &[u8]) -> bool {
+    match taken {
+        Taken::Item(Item::Document { doc }) => doc.bytes() == bytes,
+        _ => false,
+    }
+}
+
+fn ends(taken: &Taken) -> bool {
+    match taken {
+        Taken::End => true,
+        _ => false,
+    }
+}
+
+fn fails(taken: &Taken, line: u64, kind: DocKind) -> bool {
+    match taken {
+        Taken::Fault(fault) => {
+            *fault
+                == FeedFault {
+                    line,
+                    kind: FeedKind::Doc(kind),
+                }
+        }
+        _ => false,
+    }
+}
+
+#[test]
+fn gives_changes_and_documents_in_order(rt: HostRuntime) -> Result<(), Fail> {
+    let feed = b"+/a\r\n?x\n\n(a\n-x\r\n)a\n^1 /b c\n~1";
+    let mut source = MemSource::new(Bytes::of(rt.alloc(), feed)?);
+    let mut items = Items::new(rt.alloc())?;
+    assert!(rt; adds(&items.next(&mut source), b"/a"));
+    assert!(rt; shows(&items.next(&mut source), b"(a\n-x\r\n)a\n"));
+    assert!(rt; replaces(&items.next(&mut source), b"1", b"/b c"));
+    assert!(rt; removes(&items.next(&mut source), b"1"));
+    assert!(rt; ends(&items.next(&mut source)));
+    assert!(rt; ends(&items.next(&mut source)));
+    Ok(())
+}
+
+#[test]
+fn stops_at_the_first_fault(rt: HostRuntime) -> Result<(), Fail> {
+    let mut source = MemSource::new(Bytes::of(rt.alloc(), b"+/a\n(a\n#\n+/b\n")?);
+    let mut items = Items::new(rt.alloc())?;
+    assert!(rt; adds(&items.next(&mut source), b"/a"));
+    assert!(rt; fails(&items.next(&mut source), 3, DocKind::NotHere));
+    assert!(rt; fails(&items.next(&mut source), 3, DocKind::NotHere));
+    Ok(())
+}
+
+#[test]
+fn an_open_document_is_truncated(rt: HostRuntime) -> Result<(), Fail> {
+    let mut source = MemSource::new(Bytes::of(rt.alloc(), b"+/a\n(a\n(b\n")?);
+    let mut items = Items::new(rt.alloc())?;
+    assert!(rt; adds(&items.next(&mut source), b"/a"));
+    assert!(rt; fails(&items.next(&mut source), 3, DocKind::Truncated));
+    Ok(())
+}
+
+#[test]
+fn an_empty_feed_ends(rt: HostRuntime) -> Result<(), Fail> {
+    let mut source = MemSource::new(Bytes::of(rt.alloc(), b"")?);
+    let mut items = Items::new(rt.alloc())?;
+    assert!(rt; ends(&items.next(&mut source)));
+    Ok(())
+}
