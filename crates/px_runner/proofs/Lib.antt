@@ -10,3 +10,4 @@ pub mod Known
 pub mod Texts
 pub mod Moves
 pub mod Taken
+pub mod Remembered

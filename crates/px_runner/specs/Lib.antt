@@ -4,3 +4,4 @@ pub mod Memos
 pub mod Gives
 pub mod Frames
 pub mod Running
+pub mod Remembering
