@@ -24,6 +24,8 @@ mod names;
 mod path_tables;
 mod program;
 mod state;
+#[cfg(test)]
+mod tests;
 mod value_tables;
 
 pub use laws::{
