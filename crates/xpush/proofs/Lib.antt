@@ -1,8 +1,10 @@
 pub mod Answering
 pub mod Changing
+pub mod Documented
 pub mod Fronts
 pub mod Lines
 pub mod OptionReading
 pub mod Reading
 pub mod Saying
 pub mod Stopping
+pub mod Taking

@@ -8,3 +8,4 @@ pub mod OptionWords
 pub mod Stops
 pub mod Showing
 pub mod Replying
+pub mod Verdicts

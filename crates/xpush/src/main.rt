@@ -7,12 +7,14 @@
 
 mod changes;
 mod document;
+mod filtering;
 mod making;
 mod matching;
 mod options;
 mod output;
 pub mod plain;
 pub mod run;
+mod running;
 mod showing;
 mod stop;
 #[cfg(test)]
