@@ -6,5 +6,6 @@ pub mod Lines
 pub mod OptionReading
 pub mod Reading
 pub mod Saying
+pub mod Sizes
 pub mod Stopping
 pub mod Taking

@@ -1,9 +1,8 @@
 -- The line that answers a document.
-use Rattle.std.proofs.Common.{◌≡◌, ℕ, Bool, true, false, List, [], Option, Result, Ok, Err, IfOk, IsTrue, if◌then◌else◌, refl, ap, sym, ◌∙◌, subst, inl, inr, take, drop}
+use Rattle.std.proofs.Common.{◌≡◌, ℕ, Bool, true, false, List, [], ◌∷◌, map, cond, Option, Result, Ok, Err, IfOk, IsTrue, if◌then◌else◌, refl, ap, sym, ◌∙◌, subst, inl, inr, take, drop}
 use Rattle.std.proofs.lemmas.List.{take-append-drop}
-use Rattle.px_text.specs.Nodes.{Root}
+use Rattle.px_text.specs.Numbers.{is_empty}
 use Rattle.px_io.proofs.Flowing.{adds_nothing}
-use Rattle.px_reader.specs.declared.event.Event.{Event}
 use Rattle.px_reader.specs.declared.fault.DocFault.{DocFault}
 use Rattle.px_reader.specs.declared.fault.DocKind.{DocKind}
 use Rattle.px_reader.specs.declared.fault.DocKind.TheVariants.{NotHere, NotUtf8, LineLong, TooDeep, TooManyAttributes, TooBig, Truncated}
@@ -11,6 +10,7 @@ use Rattle.px_reader.specs.Verdicts.{IsTree, IsFaulty}
 use Rattle.px_xpath.specs.declared.fault.FilterFault.{FilterFault}
 use Rattle.px_xpath.specs.Faults.{IsText, HasFault}
 use Rattle.px_xpath.specs.Filters.{Way}
+use Rattle.px_xpath.specs.Histories.{Subscription}
 use Rattle.px_xpath.specs.Meaning.{holds}
 use Rattle.px_feed.specs.declared.line.FeedKind.TheVariants.{Doc}
 use Rattle.px_feed.specs.declared.line.OutLine.{OutLine}
@@ -29,23 +29,31 @@ use Rattle.xpush.specs.declared.stop.Stop.{Stop}
 use Rattle.xpush.specs.declared.stop.Stop.TheVariants as stops
 use Rattle.xpush.specs.Stops.{outcome_of, refusal_of}
 use Rattle.xpush.specs.Answers.{IsLineFor, IsLineUnder, WritesFront, is_of_filter, is_truncated}
-use Rattle.xpush.specs.Documents.{GivesTree, GivesFault}
+use Rattle.xpush.specs.Documents.{GivesMatch, GivesFault}
 use Rattle.xpush.specs.Forms.{Makes, Form, Matches, Shows}
 use Rattle.xpush.specs.Fronts.{AddsFront}
 
 -- the line of a document that was read to its end
-pub tree_line : (way : Way) (left after : Option (List ℕ)) (given : List Event) (t : GivesTree left after given) (root : Root) (found : Bool) (line : OutLine) →
-    root ≡ t.root → found ≡ holds way root → line ≡ (if found then Yes else No) → IsLineUnder way left after line
-tree_line way left after given t root found line p q e = record {
-  answers = λ bytes told.
-      (IsTree t.root, t.verdict bytes told, e ∙ ap (λ (b : Bool). if b then Yes else No) (q ∙ ap (holds way) p));
-  read_whole = λ _. t.spent;
-  of_document = ap is_of_filter e ∙ of_either found;
+pub ids_line : (way : Way) (left after : Option (List ℕ)) (ids : List ℕ) (line : OutLine) → GivesMatch way left after ids →
+    line ≡ (if is_empty ids then No else Yes) → IsLineUnder way left after line
+ids_line way left after ids line g e = record {
+  answers = λ bytes told. (IsTree g.root, g.verdict bytes told, e ∙ ap (λ (all : List ℕ). if is_empty all then No else Yes) g.ids_are ∙ by_holding (holds way g.root));
+  read_whole = λ _. g.spent;
+  of_document = ap is_of_filter e ∙ of_either (is_empty ids);
 }
   where
-    of_either : (b : Bool) → is_of_filter (if b then Yes else No) ≡ false
+    of_either : (b : Bool) → is_of_filter (if b then No else Yes) ≡ false
     of_either true = refl
     of_either false = refl
+
+    by_holding : (b : Bool) → (if is_empty (map (λ (s : Subscription). s.id) (cond b (record { id = 1; filter = way } ∷ []) [])) then No else Yes) ≡ (if b then Yes else No)
+    by_holding true = refl
+    by_holding false = refl
+
+-- the same, where the ids were seen
+pub answer_line : (way : Way) (left after : Option (List ℕ)) (ids seen : List ℕ) (line : OutLine) → GivesMatch way left after ids → seen ≡ ids →
+    line ≡ (if is_empty seen then No else Yes) → IsLineUnder way left after line
+answer_line way left after ids seen line g same e = ids_line way left after ids line g (e ∙ ap (λ (all : List ℕ). if is_empty all then No else Yes) same)
 
 -- only one kind of fault needs the whole input
 truncated_only : (kind : DocKind) → IsTrue (is_truncated (Doc kind)) → kind ≡ Truncated

@@ -1,6 +1,14 @@
 -- A document that is read piece by piece.
-use Rattle.std.proofs.Common.{◌≡◌, ◌<◌, ◌+◌, ℕ, List, [], ◌++◌, length, Option, Some, None, ap, sym, ◌∙◌, subst, arith, length-append, append-nil}
+use Rattle.std.proofs.Common.{◌≡◌, ◌<◌, ◌+◌, ℕ, ◌≤◌, ◌^◌, List, [], ◌∷◌, ◌++◌, Result, Ok, Err, IfOk, length, Option, Some, None, ap, sym, ◌∙◌, subst, arith, length-append, append-nil}
 use Rattle.px_text.specs.Nodes.{Root}
+use Rattle.px_xpath.specs.declared.numbered.Numbered.{Numbered}
+use Rattle.px_xpath.specs.Filters.{Way}
+use Rattle.px_xpath.specs.Subscribed.{subscriptions}
+use Rattle.px_afa.specs.declared.state.State.{State}
+use Rattle.px_afa.specs.Building.{Automata, automata}
+use Rattle.px_runner.specs.declared.held.Held.{Held}
+use Rattle.px_runner.specs.declared.runner.Runner.{Runner}
+use Rattle.px_runner.specs.Running.{HasRun}
 use Rattle.px_io.specs.Flows.{TakesFrom, IsSpent}
 use Rattle.px_io.proofs.Flowing.{takes_both}
 use Rattle.px_reader.specs.declared.event.Event.{Event}
@@ -8,20 +16,22 @@ use Rattle.px_reader.specs.declared.fault.DocFault.{DocFault}
 use Rattle.px_reader.specs.declared.fault.DocKind.{DocKind}
 use Rattle.px_reader.specs.declared.fault.DocKind.TheVariants.{Truncated}
 use Rattle.px_reader.specs.declared.reader.Reader.{Reader}
-use Rattle.px_reader.specs.Reading.{HasRead}
+use Rattle.px_reader.specs.Reading.{HasRead, GivesOn, EndsTree}
 use Rattle.px_reader.proofs.Endless.{never_truncated}
 use Rattle.px_reader.specs.Spelling.{events_of}
 use Rattle.px_reader.specs.Verdicts.{Verdict, HasVerdict, IsFaulty, IsTree}
-use Rattle.xpush.specs.Documents.{Reads, IsAtEnd, GivesTree, GivesFault}
+use Rattle.xpush.specs.Documents.{Reads, IsAtEnd, GivesIds, GivesMatch, GivesFault}
+use Rattle.xpush.specs.Verdicts.{ids_accepted, ids_matching}
+use Rattle.xpush.proofs.Taking.{accepts}
 
 -- a piece that is judged goes on from what was read
-pub reads_more : (least : ℕ) (left before after : Option (List ℕ)) (reader reader_now : Reader) (given given_now more : List Event) (piece : List ℕ) →
-    (r : Reads least left before reader given) → TakesFrom before piece after → 0 < length piece → given_now ≡ given ++ more →
-    HasRead reader_now (r.bytes ++ piece) (given ++ more) → Reads (least + 1) left after reader_now given_now
-reads_more least left before after reader reader_now given given_now more piece r taken some e read = record {
+pub reads_more : (least : ℕ) (left before after : Option (List ℕ)) (reader reader_now : Reader) (given came more : List Event) (piece : List ℕ) →
+    (r : Reads least left before reader given) → TakesFrom before piece after → 0 < length piece → came ≡ more →
+    HasRead reader_now (r.bytes ++ piece) (given ++ more) → Reads (least + 1) left after reader_now (given ++ came)
+reads_more least left before after reader reader_now given came more piece r taken some e read = record {
   bytes = r.bytes ++ piece;
   taken = takes_both left before after r.bytes piece r.taken taken;
-  read = (let P : List Event → Type 0 = λ events. HasRead reader_now (r.bytes ++ piece) events in subst P (sym e) read);
+  read = (let P : List Event → Type 0 = λ events. HasRead reader_now (r.bytes ++ piece) (given ++ events) in subst P (sym e) read);
   many = omega (arith, r.many, length-append r.bytes piece);
 }
 
@@ -58,16 +68,56 @@ of_all_left : (least : ℕ) (left now : Option (List ℕ)) (reader : Reader) (gi
 of_all_left least left now reader given verdict r spent v bytes e =
     let P : List ℕ → Type 0 = λ all. HasVerdict all verdict in subst P (sym (all_taken bytes r.bytes left now r.taken spent e)) v
 
+-- nothing stood before what came
+pub came_is : (before came more : List Event) → before ≡ [] → came ≡ before ++ more → came ≡ more
+came_is before came more none e = e ∙ ap (λ front. front ++ more) none
+
+-- what came is few enough with what came before
+pub few_more : (given before came : List Event) → before ≡ [] → GivesOn given before came → length (given ++ came) ≤ 16_777_216
+few_more given before came none t =
+    let P : List Event → Type 0 = λ events. length (given ++ events) ≤ 16_777_216 in
+    let same : came ≡ t.0 = came_is before came t.0 none t.1 in
+    subst P (sym same) t.3
+
+-- a piece brings few enough events
+pub piece_few : (given came seen : List Event) → seen ≡ came → length (given ++ came) ≤ 16_777_216 → length given + length seen < 2 ^ 60
+piece_few given came seen e few = let all = length-append given came in let same = ap (λ (es : List Event). length es) e in omega arith
+
+-- the end of a document brings the rest of its events
+pub last_few : (given before came : List Event) → before ≡ [] → GivesOn given before came → length given + length came < 2 ^ 60
+last_few given before came none t = let few = few_more given before came none t in let all = length-append given came in omega arith
+
+pub ends_whole : (bytes : List ℕ) (given before came : List Event) → before ≡ [] → EndsTree bytes given before came →
+    (root : Root) × (events_of root ≡ given ++ came) × HasVerdict bytes (IsTree root)
+ends_whole bytes given before came none t =
+    let same : came ≡ t.1 = came_is before came t.1 none t.2 in
+    (t.0, t.3 ∙ ap (λ events. given ++ events) (sym same), t.4)
+
+-- the last events, which the machine has still to take
+pub last_taken : {M : Type 0} (states : M → List State) (stands_for : M → Held → List ℕ → Type 0) (memo : M) (runner : Runner) (program : Automata)
+    (bytes : List ℕ) (given before came seen : List Event) → seen ≡ came → before ≡ [] → HasRun states stands_for memo runner program given →
+    EndsTree bytes given before came → GivesOn given before came →
+    (all : List Event) × (root : Root) × HasRun states stands_for memo runner program all × (events_of root ≡ all ++ seen) × (length all + length seen < 2 ^ 60)
+last_taken states stands_for memo runner program bytes given before came seen e none run ends gives =
+    let whole = ends_whole bytes given before came none ends in
+    let few = last_few given before came none gives in
+    let same = ap (λ (es : List Event). length es) e in
+    (given, whole.0, run, whole.1 ∙ ap (λ es. given ++ es) (sym e), omega arith)
+
 -- a document that is read to its end
-pub gives_tree : (least : ℕ) (left now : Option (List ℕ)) (reader : Reader) (given given_now more : List Event) (root : Root) →
-    (r : Reads least left now reader given) → IsSpent now → HasVerdict r.bytes (IsTree root) → given_now ≡ given ++ more →
-    events_of root ≡ given ++ more → GivesTree left now given_now
-gives_tree least left now reader given given_now more root r spent verdict e whole = record {
-  root = root;
-  events_are = e ∙ sym whole;
-  spent = spent;
-  verdict = of_all_left least left now reader given (IsTree root) r spent verdict;
-}
+pub gives_ids : {M : Type 0} (states : M → List State) (stands_for : M → Held → List ℕ → Type 0) (memo : M) (runner : Runner) (program : Automata)
+    (least : ℕ) (left now : Option (List ℕ)) (reader : Reader) (given before came seen : List Event) (ids : List ℕ) → seen ≡ came →
+    (r : Reads least left now reader given) → IsSpent now → before ≡ [] → EndsTree r.bytes given before came → HasRun states stands_for memo runner program given →
+    ((all : List Event) (root : Root) → HasRun states stands_for memo runner program all → events_of root ≡ all ++ seen → ids ≡ ids_accepted program root) →
+    GivesIds program left now ids
+gives_ids states stands_for memo runner program least left now reader given before came seen ids e r spent none ends run accepts =
+    let whole = ends_whole r.bytes given before came none ends in
+    record {
+      root = whole.0;
+      ids_are = accepts given whole.0 run (whole.1 ∙ ap (λ es. given ++ es) (sym e));
+      spent = spent;
+      verdict = of_all_left least left now reader given (IsTree whole.0) r spent whole.2;
+    }
 
 -- a document whose fault shows at its end
 pub gives_fault : (least : ℕ) (left now : Option (List ℕ)) (reader : Reader) (given : List Event) (fault : DocFault) →
@@ -78,10 +128,25 @@ gives_fault least left now reader given fault r spent verdict = record {
 }
 
 -- the source is at its end, so that what was read before is all
-pub read_all : (least : ℕ) (left before now : Option (List ℕ)) (reader reader_now : Reader) (given given_now : List Event) →
-    Reads least left before reader given → IsAtEnd before now reader reader_now given given_now → Reads least left now reader_now given_now
-read_all least left before now reader reader_now given given_now r end =
-    let P : List Event → Type 0 = λ events. Reads least left now reader_now events in
+pub read_all : (least : ℕ) (left before now : Option (List ℕ)) (reader reader_now : Reader) (given : List Event) →
+    Reads least left before reader given → IsAtEnd before now reader reader_now → Reads least left now reader_now given
+read_all least left before now reader reader_now given r end =
     let Q : Reader → Type 0 = λ one. Reads least left now one given in
     let R : Option (List ℕ) → Type 0 = λ rest. Reads least left rest reader given in
-    subst P (sym end.same_events) (subst Q (sym end.same_reader) (subst R (sym end.still_left) r))
+    subst Q (sym end.same_reader) (subst R (sym end.still_left) r)
+
+-- the ids that the program of one filter accepts are its matches
+pub gives_match : (only : List Numbered) (filter : Way) (program : Automata) (left now : Option (List ℕ)) (ids : List ℕ) → program ≡ automata (subscriptions only) →
+    subscriptions only ≡ record { id = 1; filter = filter } ∷ [] → GivesIds program left now ids → GivesMatch filter left now ids
+gives_match only filter program left now ids e one g = record {
+  root = g.root;
+  ids_are = g.ids_are ∙ accepts only program g.root e ∙ ap (λ live. ids_matching live g.root) one;
+  spent = g.spent;
+  verdict = g.verdict;
+}
+
+pub gives_matches : {E : Type 0} (only : List Numbered) (filter : Way) (program : Automata) (left now : Option (List ℕ)) (result : Result (List ℕ) E) →
+    program ≡ automata (subscriptions only) → subscriptions only ≡ record { id = 1; filter = filter } ∷ [] →
+    IfOk result (λ ids. GivesIds program left now ids) → IfOk result (λ ids. GivesMatch filter left now ids)
+gives_matches only filter program left now (Ok ids) e one g = gives_match only filter program left now ids e one g
+gives_matches only filter program left now (Err found) e one g = tt

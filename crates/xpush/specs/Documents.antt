@@ -1,5 +1,5 @@
 -- What is read of a document.
-use Rattle.std.specs.Prelude.{◌≡◌, ◌≤◌, ℕ, List, length, Option, Some}
+use Rattle.std.specs.Prelude.{◌≡◌, ◌≤◌, ℕ, List, [], ◌∷◌, length, Option, Some}
 use Rattle.px_text.specs.Nodes.{Root}
 use Rattle.px_io.specs.Flows.{TakesFrom, IsSpent}
 use Rattle.px_reader.specs.declared.event.Event.{Event}
@@ -7,8 +7,10 @@ use Rattle.px_reader.specs.declared.fault.DocFault.{DocFault}
 use Rattle.px_reader.specs.declared.fault.DocKind.TheVariants.{Truncated}
 use Rattle.px_reader.specs.declared.reader.Reader.{Reader}
 use Rattle.px_reader.specs.Reading.{HasRead}
-use Rattle.px_reader.specs.Spelling.{events_of}
 use Rattle.px_reader.specs.Verdicts.{HasVerdict, IsTree, IsFaulty}
+use Rattle.px_xpath.specs.Filters.{Way}
+use Rattle.px_afa.specs.Building.{Automata}
+use Rattle.xpush.specs.Verdicts.{ids_accepted, ids_matching}
 
 -- The bytes that the source has given were read, at least so many, and brought these events.
 pub record Reads (least : ℕ) (left now : Option (List ℕ)) (reader : Reader) (given : List Event) : Type 0 where
@@ -18,16 +20,22 @@ pub record Reads (least : ℕ) (left now : Option (List ℕ)) (reader : Reader) 
   pub many : least ≤ length bytes
 
 -- The source is at its end, and nothing was read.
-pub record IsAtEnd (left now : Option (List ℕ)) (reader reader_now : Reader) (given given_now : List Event) : Type 0 where
+pub record IsAtEnd (left now : Option (List ℕ)) (reader reader_now : Reader) : Type 0 where
   pub spent : IsSpent now
   pub still_left : now ≡ left
   pub same_reader : reader_now ≡ reader
-  pub same_events : given_now ≡ given
 
--- The source has given a document to its end, whose events are these.
-pub record GivesTree (left now : Option (List ℕ)) (given : List Event) : Type 0 where
+-- The source has given a document to its end, and the machine of the program accepts these ids of it.
+pub record GivesIds (program : Automata) (left now : Option (List ℕ)) (ids : List ℕ) : Type 0 where
   pub root : Root
-  pub events_are : given ≡ events_of root
+  pub ids_are : ids ≡ ids_accepted program root
+  pub spent : IsSpent now
+  pub verdict : (bytes : List ℕ) → left ≡ Some bytes → HasVerdict bytes (IsTree root)
+
+-- The source has given a document to its end, and these ids are 1 where it matches the filter, and none where not.
+pub record GivesMatch (filter : Way) (left now : Option (List ℕ)) (ids : List ℕ) : Type 0 where
+  pub root : Root
+  pub ids_are : ids ≡ ids_matching (record { id = 1; filter = filter } ∷ []) root
   pub spent : IsSpent now
   pub verdict : (bytes : List ℕ) → left ≡ Some bytes → HasVerdict bytes (IsTree root)
 

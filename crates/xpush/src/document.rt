@@ -1,14 +1,21 @@
-//! Reading one document to the end of input.
+//! The machine over one document, to the end of input.
 
-ghost use Rattle.std.specs.Prelude.{◌≡◌, ◌<◌, ◌≤◌, ◌+◌, IfOk, Ok, Err, Option, List, ℕ, true, false, length};
+ghost use Rattle.std.specs.Prelude.{◌≡◌, ◌<◌, ◌≤◌, ◌+◌, ◌++◌, IfOk, Ok, Err, Option, List, ℕ, true, false, length};
 ghost use Rattle.px_io.specs.Faults.{Rose};
 ghost use Rattle.px_io.specs.Flows.{IsSpent};
+ghost use Rattle.px_reader.specs.declared.event.Event.{Event as Happened};
 ghost use Rattle.px_reader.specs.declared.fault.DocFault.{DocFault};
-ghost use Rattle.xpush.specs.Documents.{Reads, IsAtEnd, GivesTree, GivesFault};
+ghost use Rattle.px_reader.specs.Reading.{HasRead};
+ghost use Rattle.px_runner.specs.Running.{HasRun};
+ghost use Rattle.xpush.specs.Documents.{Reads, IsAtEnd, GivesIds, GivesFault};
 
+use crate::running::{ids_behind, take_all};
 use crate::stop::Stop;
+use px_afa::Program;
 use px_io::{ReadAnswer, Source};
 use px_reader::{Event, Reader};
+use px_runner::{Memo, Runner};
+use px_text::Ids;
 use std::alloc::{AllocError, Global};
 
 /// How many bytes are read at once.
@@ -18,22 +25,30 @@ const BUFFER: usize = 65_536;
 /// find its end or its fault.
 const MOST_READS: u32 = 16_777_217;
 
-/// The events of the document that is left in the source, which is read to its end, or to where
-/// the document's fault shows.
-pub fn read_document<S: Source>(alloc: Global, source: &mut S) -> Result<Vec<Event>, Stop>
-    ensures tree { IfOk result (λ events. GivesTree (S.left source.old) (S.left source.new) events.items) }
+/// The ids of the program's filters that the document left in the source matches. The source is
+/// read to its end, or to where the document's fault shows. The events of each piece are given to
+/// the machine as they come.
+pub fn ids_in<S: Source, M: Memo>(
+    alloc: Global,
+    source: &mut S,
+    program: &Program,
+    memo: &mut M,
+) -> Result<Ids, Stop>
+    requires program { M.states memo.old ≡ program.now.states }
+    ensures ids { IfOk result (λ ids. GivesIds program.now (S.left source.old) (S.left source.new) ids) }
     ensures fault { (fault : DocFault) → result ≡ Err (Stop.Doc fault) → GivesFault (S.left source.old) (S.left source.new) fault }
     ensures failed { result ≡ Err Stop.Source → Rose (S.faults source.old) (S.faults source.new) }
     ensures never_falls { S.faults source.old ≤ S.faults source.new }
 {
     let mut reader = Reader::new(alloc)?;
+    let mut runner = Runner::new(alloc, program, memo)?;
     let mut events = Vec::new(alloc);
     let mut storage = zeros(alloc, BUFFER)?;
     let buffer = storage.as_mut_slice();
     for _ in 0..MOST_READS {
         match read_piece(source, buffer, &mut reader, &mut events) {
-            Ok(false) => {}
-            Ok(true) => return finish(reader, events),
+            Ok(false) => take_all(&mut runner, program, memo, events.as_slice())?,
+            Ok(true) => return finish(alloc, reader, events, runner, program, memo),
             Err(stop) => return Err(stop),
         }
     }
@@ -46,7 +61,8 @@ fn zeros(alloc: Global, count: usize) -> Result<Vec<u8>, AllocError>
     vec![in alloc; 0; count]
 }
 
-/// Reads the next piece into the buffer and judges it: whether the source is at its end.
+/// Reads the next piece into the buffer and judges it: the events that it brings, and whether the
+/// source is at its end.
 fn read_piece<S: Source>(
     source: &mut S,
     buffer: &mut [u8],
@@ -54,14 +70,15 @@ fn read_piece<S: Source>(
     events: &mut Vec<Event>,
 ) -> Result<bool, Stop>
     requires { 0 < length buffer.old }
-    ensures more { (least : ℕ) (left : Option (List ℕ)) → Reads least left (S.left source.old) reader.old events.old.items →
-        result ≡ Ok false → Reads (least + 1) left (S.left source.new) reader.new events.new.items }
-    ensures end { result ≡ Ok true → IsAtEnd (S.left source.old) (S.left source.new) reader.old reader.new events.old.items events.new.items }
-    ensures fault { (least : ℕ) (left : Option (List ℕ)) → Reads least left (S.left source.old) reader.old events.old.items →
+    ensures more { (least : ℕ) (left : Option (List ℕ)) (given : List Happened) → Reads least left (S.left source.old) reader.old given →
+        result ≡ Ok false → Reads (least + 1) left (S.left source.new) reader.new (given ++ events.new.items) × (length (given ++ events.new.items) ≤ 16_777_216) }
+    ensures end { result ≡ Ok true → IsAtEnd (S.left source.old) (S.left source.new) reader.old reader.new }
+    ensures fault { (least : ℕ) (left : Option (List ℕ)) (given : List Happened) → Reads least left (S.left source.old) reader.old given →
         (fault : DocFault) → result ≡ Err (Stop.Doc fault) → GivesFault left (S.left source.new) fault }
     ensures failed { result ≡ Err Stop.Source → Rose (S.faults source.old) (S.faults source.new) }
     ensures never_falls { S.faults source.old ≤ S.faults source.new }
 {
+    events.clear();
     match source.read(buffer) {
         ReadAnswer::Got(count) => match reader.feed(&buffer[..count], events) {
             Ok(()) => Ok(false),
@@ -72,16 +89,29 @@ fn read_piece<S: Source>(
     }
 }
 
-/// Ends the document: all of its events, or its fault.
-fn finish(mut reader: Reader, mut events: Vec<Event>) -> Result<Vec<Event>, Stop>
-    ensures tree { (least : ℕ) (left now : Option (List ℕ)) → Reads least left now reader events.items → IsSpent now →
-        IfOk result (λ whole. GivesTree left now whole.items) }
-    ensures fault { (least : ℕ) (left now : Option (List ℕ)) → Reads least left now reader events.items → IsSpent now →
+/// Ends the document: the ids, or its fault.
+fn finish<M: Memo>(
+    alloc: Global,
+    mut reader: Reader,
+    mut events: Vec<Event>,
+    runner: Runner,
+    program: &Program,
+    memo: &mut M,
+) -> Result<Ids, Stop>
+    requires program { M.states memo.old ≡ program.now.states }
+    requires run { (bytes : List ℕ) × (given : List Happened) × HasRead reader bytes given × HasRun M.states M.stands_for memo.old runner program.now given }
+    ensures ids { (least : ℕ) (left now : Option (List ℕ)) (given : List Happened) → Reads least left now reader given → IsSpent now →
+        HasRun M.states M.stands_for memo.old runner program.now given → IfOk result (λ ids. GivesIds program.now left now ids) }
+    ensures fault { (least : ℕ) (left now : Option (List ℕ)) (given : List Happened) → Reads least left now reader given → IsSpent now →
         (fault : DocFault) → result ≡ Err (Stop.Doc fault) → GivesFault left now fault }
     ensures not_read { result ≡ Err Stop.Source → ⊥ }
 {
+    events.clear();
     match reader.end(&mut events) {
-        Ok(()) => Ok(events),
+        Ok(()) => match ids_behind(alloc, runner, program, memo, events.as_slice()) {
+            Ok(ids) => Ok(ids),
+            Err(_) => Err(Stop::Memory),
+        },
         Err(fault) => Err(Stop::from(fault)),
     }
 }

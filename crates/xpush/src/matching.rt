@@ -3,19 +3,24 @@
 ghost use Rattle.std.specs.Prelude.{◌≡◌, ◌≤◌, IfOk, Err, IsTrue, if◌then◌else◌};
 ghost use Rattle.px_feed.specs.Matches.{status_behind as status_of_line};
 ghost use Rattle.px_io.specs.Faults.{Rose};
+ghost use Rattle.px_reader.specs.declared.fault.DocFault.{DocFault};
+ghost use Rattle.px_text.specs.Numbers.{is_empty};
+ghost use Rattle.px_xpath.specs.Histories.{size};
 ghost use Rattle.px_xpath.specs.Whole.{filter as way_of};
 ghost use Rattle.xpush.specs.Answers.{IsLineFor, IsLineUnder, Matched, WritesFront, is_finished, is_cut_short};
+ghost use Rattle.xpush.specs.Documents.{GivesFault, GivesMatch};
 ghost use Rattle.xpush.specs.Forms.{Matches};
 ghost use Rattle.xpush.specs.Stops.{outcome_of, refusal_of};
 
-use crate::document::read_document;
+use crate::document::ids_in;
 use crate::output::write_answer;
 use crate::stop::{Cut, Stop};
+use px_afa::Program;
 use px_feed::{FeedFault, FeedKind, OutLine, Status, line_of};
 use px_io::{Sink, Source};
-use px_meaning::holds;
-use px_tree::build;
-use px_xpath::{Filter, ParseFault, parse};
+use px_runner::PrivateMemo;
+use px_text::Ids;
+use px_xpath::{Filter, Numbered, ParseFault, parse};
 use std::alloc::Global;
 
 /// Writes the line for a filter's text and the document that is left in the source.
@@ -62,7 +67,7 @@ fn line_for<S: Source>(alloc: Global, text: &[u8], source: &mut S) -> Result<Out
     ensures never_falls { S.faults source.old ≤ S.faults source.new }
 {
     match parse(alloc, text) {
-        Ok(filter) => line_under(alloc, &filter, source),
+        Ok(filter) => line_under(alloc, filter, source),
         Err(fault) => refusal(fault),
     }
 }
@@ -78,18 +83,31 @@ fn refusal(fault: ParseFault) -> Result<OutLine, Cut>
 }
 
 /// The line for the document that is left in the source under the filter.
-fn line_under<S: Source>(alloc: Global, filter: &Filter, source: &mut S) -> Result<OutLine, Cut>
-    ensures line { IfOk result (λ line. IsLineUnder (way_of filter.now) (S.left source.old) (S.left source.new) line) }
+fn line_under<S: Source>(alloc: Global, filter: Filter, source: &mut S) -> Result<OutLine, Cut>
+    requires small { size (way_of filter) ≤ 500_000 }
+    ensures line { IfOk result (λ line. IsLineUnder (way_of filter) (S.left source.old) (S.left source.new) line) }
     ensures failed { result ≡ Err Cut.Source → Rose (S.faults source.old) (S.faults source.new) }
     ensures never_falls { S.faults source.old ≤ S.faults source.new }
 {
-    match read_document(alloc, source) {
-        Ok(events) => match build(alloc, events.as_slice()) {
-            Ok(tree) => Ok(answer(holds(filter, &tree))),
-            Err(_) => Err(Cut::Memory),
-        },
+    match ids_under(alloc, filter, source) {
+        Ok(ids) => Ok(answer(ids.as_slice())),
         Err(stop) => outcome(stop),
     }
+}
+
+/// The ids that the document left in the source matches, where the filter is the only one and has
+/// the id 1.
+fn ids_under<S: Source>(alloc: Global, filter: Filter, source: &mut S) -> Result<Ids, Stop>
+    requires small { size (way_of filter) ≤ 500_000 }
+    ensures ids { IfOk result (λ ids. GivesMatch (way_of filter) (S.left source.old) (S.left source.new) ids) }
+    ensures fault { (fault : DocFault) → result ≡ Err (Stop.Doc fault) → GivesFault (S.left source.old) (S.left source.new) fault }
+    ensures failed { result ≡ Err Stop.Source → Rose (S.faults source.old) (S.faults source.new) }
+    ensures never_falls { S.faults source.old ≤ S.faults source.new }
+{
+    let only = [Numbered { id: 1, filter }];
+    let program = Program::build(alloc, &only)?;
+    let mut memo = PrivateMemo::new(alloc, &program)?;
+    ids_in(alloc, source, &program, &mut memo)
 }
 
 /// The line for a document whose reading was stopped.
@@ -106,9 +124,13 @@ fn outcome(stop: Stop) -> Result<OutLine, Cut>
     }
 }
 
-/// The line for a document that matches or does not.
-fn answer(matches: bool) -> OutLine
-    ensures { result ≡ (if matches then OutLine.Yes else OutLine.No) }
+/// The line for a document that matches the filters with these ids.
+fn answer(ids: &[u32]) -> OutLine
+    ensures { result ≡ (if is_empty ids.now then OutLine.No else OutLine.Yes) }
 {
-    if matches { OutLine::Yes } else { OutLine::No }
+    if ids.is_empty() {
+        OutLine::No
+    } else {
+        OutLine::Yes
+    }
 }

@@ -1,5 +1,6 @@
 -- The line of a filter's text.
 use Rattle.xpush.proofs.Lines.{parsed_lines, refused_line, refused_by_source}
+use Rattle.xpush.proofs.Sizes.{text_small}
 use Rattle.xpush.proofs.matching.line_for.Goals as goal
 
 pub returns-in-Ok-clause-line : goal.returns-in-Ok-clause-line
@@ -10,3 +11,6 @@ returns-in-Err-clause-line g c = refused_line _ _ c.in-Err.fault c.refusal.resul
 
 pub returns-in-Err-clause-failed : goal.returns-in-Err-clause-failed
 returns-in-Err-clause-failed g c = λ e. absurd (refused_by_source c.in-Err.fault c.refusal.result c.refusal.ensures e)
+
+pub line_under-requires : goal.line_under-requires
+line_under-requires g c = record { small = text_small _ _ c.in-Ok.ensures }
