@@ -7,5 +7,6 @@ pub mod OptionReading
 pub mod Reading
 pub mod Saying
 pub mod Sizes
+pub mod Spoken
 pub mod Stopping
 pub mod Taking

@@ -9,3 +9,4 @@ pub mod Stops
 pub mod Showing
 pub mod Replying
 pub mod Verdicts
+pub mod Waiting

@@ -11,6 +11,7 @@ mod filtering;
 mod making;
 mod matching;
 mod options;
+mod outgoing;
 mod output;
 pub mod plain;
 pub mod run;

@@ -1,0 +1,72 @@
+-- Lines that are said one behind the other.
+use Rattle.std.proofs.Common.{◌≡◌, ℕ, ◌+◌, ◌||◌, Bool, true, false, List, [], ◌∷◌, ◌++◌, length, take, drop, Option, refl, ap, sym, ◌∙◌, subst, append_assoc, append-nil}
+use Rattle.std.specs.List.{list_any}
+use Rattle.std.proofs.lemmas.Grind.{flat_map-append}
+use Rattle.std.proofs.lemmas.List.Folds.{list_any-append}
+use Rattle.std.proofs.Math.Seq.{take-append-add, take-append_seam}
+use Rattle.px_io.specs.Flows.{AddsTo}
+use Rattle.px_io.proofs.Flowing.{adds_both, adds_nothing}
+use Rattle.px_feed.specs.declared.line.OutLine.{OutLine}
+use Rattle.px_feed.specs.Lines.{line_text, is_refusal}
+use Rattle.px_feed.specs.Outputs.{text_of}
+use Rattle.xpush.specs.declared.outgoing.Outgoing.{Outgoing}
+use Rattle.xpush.specs.Fronts.{AddsFront}
+use Rattle.xpush.specs.Waiting.{HasSaid}
+
+-- nothing is said
+pub said_nothing : (outgoing : Outgoing) (held : Option (List ℕ)) → outgoing.pending.items ≡ [] → outgoing.refused ≡ false → HasSaid outgoing held held []
+said_nothing outgoing held e f = record { written = []; added = adds_nothing held; waits = e; refused = f }
+
+-- a line more that waits
+pub said_more : (old new : Outgoing) (held now : Option (List ℕ)) (lines : List OutLine) (line : OutLine) (text : List ℕ) → text ≡ line_text line →
+    new.pending.items ≡ old.pending.items ++ text → new.refused ≡ (old.refused || is_refusal line) → (s : HasSaid old held now lines) →
+    HasSaid new held now (lines ++ line ∷ [])
+said_more old new held now lines line text e p r s = record {
+  written = s.written;
+  added = s.added;
+  waits =
+      ap (λ rest. s.written ++ rest) p ∙ sym (append_assoc s.written old.pending.items text) ∙ ap (λ front. front ++ text) s.waits
+      ∙ ap (λ rest. text_of lines ++ rest) (e ∙ sym (append-nil (line_text line)))
+      ∙ sym (flat_map-append line_text lines (line ∷ []));
+  refused = r ∙ ap (λ b. b || is_refusal line) s.refused ∙ ap (λ b. list_any is_refusal lines || b) (sym (or_false (is_refusal line))) ∙ sym (list_any-append is_refusal lines (line ∷ []));
+}
+  where
+    or_false : (b : Bool) → (b || false) ≡ b
+    or_false true = refl
+    or_false false = refl
+
+-- what is written is a front of these lines and those behind them
+pub written_so_far : (outgoing : Outgoing) (held now : Option (List ℕ)) (lines more : List OutLine) → (s : HasSaid outgoing held now lines) →
+    AddsFront held (text_of (lines ++ more)) now
+written_so_far outgoing held now lines more s =
+    let whole : s.written ++ (outgoing.pending.items ++ text_of more) ≡ text_of (lines ++ more) =
+    sym (append_assoc s.written outgoing.pending.items (text_of more)) ∙ ap (λ front. front ++ text_of more) s.waits ∙ sym (flat_map-append line_text lines more) in
+    let front = take-append_seam s.written (outgoing.pending.items ++ text_of more) in
+    let P : List ℕ → Type 0 = λ piece. AddsTo held piece now in
+    (length s.written, subst P (sym front ∙ ap (take (length s.written)) whole) s.added)
+
+-- a front of what waits, behind what is written
+pub written_front : (outgoing : Outgoing) (held middle now : Option (List ℕ)) (lines : List OutLine) → (s : HasSaid outgoing held middle lines) →
+    AddsFront middle outgoing.pending.items now → AddsFront held (text_of lines) now
+written_front outgoing held middle now lines s front =
+    let both = adds_both held middle now s.written (take front.0 outgoing.pending.items) s.added front.1 in
+    let P : List ℕ → Type 0 = λ piece. AddsTo held piece now in
+    let joined = sym (take-append-add s.written outgoing.pending.items front.0) ∙ ap (take (length s.written + front.0)) s.waits in
+    (length s.written + front.0, subst P joined both)
+
+-- all that waits, behind what is written
+pub written_all : (outgoing : Outgoing) (held middle now : Option (List ℕ)) (lines : List OutLine) → (s : HasSaid outgoing held middle lines) →
+    AddsTo middle outgoing.pending.items now → AddsTo held (text_of lines) now
+written_all outgoing held middle now lines s added =
+    let P : List ℕ → Type 0 = λ piece. AddsTo held piece now in
+    subst P s.waits (adds_both held middle now s.written outgoing.pending.items s.added added)
+
+-- nothing waits any more
+pub said_all : (old new : Outgoing) (held middle now : Option (List ℕ)) (lines : List OutLine) → (s : HasSaid old held middle lines) →
+    AddsTo middle old.pending.items now → new.pending.items ≡ [] → new.refused ≡ old.refused → HasSaid new held now lines
+said_all old new held middle now lines s added empty same = record {
+  written = s.written ++ old.pending.items;
+  added = adds_both held middle now s.written old.pending.items s.added added;
+  waits = ap (λ rest. (s.written ++ old.pending.items) ++ rest) empty ∙ append-nil (s.written ++ old.pending.items) ∙ s.waits;
+  refused = same ∙ s.refused;
+}
