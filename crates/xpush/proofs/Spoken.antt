@@ -1,5 +1,5 @@
 -- Lines that are said one behind the other.
-use Rattle.std.proofs.Common.{◌≡◌, ℕ, ◌+◌, ◌||◌, Bool, true, false, List, [], ◌∷◌, ◌++◌, length, take, drop, Option, refl, ap, sym, ◌∙◌, subst, append_assoc, append-nil}
+use Rattle.std.proofs.Common.{◌≡◌, ℕ, ◌+◌, ◌||◌, Bool, true, false, List, [], ◌∷◌, ◌++◌, length, take, drop, Option, IsTrue, refl, ap, sym, ◌∙◌, subst, append_assoc, append-nil}
 use Rattle.std.specs.List.{list_any}
 use Rattle.std.proofs.lemmas.Grind.{flat_map-append}
 use Rattle.std.proofs.lemmas.List.Folds.{list_any-append}
@@ -7,11 +7,16 @@ use Rattle.std.proofs.Math.Seq.{take-append-add, take-append_seam}
 use Rattle.px_io.specs.Flows.{AddsTo}
 use Rattle.px_io.proofs.Flowing.{adds_both, adds_nothing}
 use Rattle.px_feed.specs.declared.line.OutLine.{OutLine}
+use Rattle.px_feed.specs.declared.status.Status.{Status}
+use Rattle.px_feed.specs.declared.status.Status.TheVariants.{Done, Refused, Usage, ReadFault, WriteFault, Memory}
 use Rattle.px_feed.specs.Lines.{line_text, is_refusal}
 use Rattle.px_feed.specs.Outputs.{text_of}
 use Rattle.xpush.specs.declared.outgoing.Outgoing.{Outgoing}
 use Rattle.xpush.specs.Fronts.{AddsFront}
-use Rattle.xpush.specs.Waiting.{HasSaid}
+use Rattle.xpush.specs.Waiting.{HasSaid, IsCut, Closes, Breaks}
+
+not_true : IsTrue false → ⊥
+not_true t = absurd (cc)
 
 -- nothing is said
 pub said_nothing : (outgoing : Outgoing) (held : Option (List ℕ)) → outgoing.pending.items ≡ [] → outgoing.refused ≡ false → HasSaid outgoing held held []
@@ -45,6 +50,10 @@ written_so_far outgoing held now lines more s =
     let P : List ℕ → Type 0 = λ piece. AddsTo held piece now in
     (length s.written, subst P (sym front ∙ ap (take (length s.written)) whole) s.added)
 
+pub said_front : (outgoing : Outgoing) (held now : Option (List ℕ)) (lines : List OutLine) → HasSaid outgoing held now lines → AddsFront held (text_of lines) now
+said_front outgoing held now lines s =
+    let P : List OutLine → Type 0 = λ ls. AddsFront held (text_of ls) now in subst P (append-nil lines) (written_so_far outgoing held now lines [] s)
+
 -- a front of what waits, behind what is written
 pub written_front : (outgoing : Outgoing) (held middle now : Option (List ℕ)) (lines : List OutLine) → (s : HasSaid outgoing held middle lines) →
     AddsFront middle outgoing.pending.items now → AddsFront held (text_of lines) now
@@ -70,3 +79,20 @@ said_all old new held middle now lines s added empty same = record {
   waits = ap (λ rest. (s.written ++ old.pending.items) ++ rest) empty ∙ append-nil (s.written ++ old.pending.items) ∙ s.waits;
   refused = same ∙ s.refused;
 }
+
+-- a run that was cut short, at its end and behind a read fault
+pub cut_closes : (status : Status) (held now : Option (List ℕ)) (lines : List OutLine) → IsCut status held now lines → Closes status held now lines
+cut_closes Done held now lines cut = absurd (not_true cut.0)
+cut_closes Refused held now lines cut = absurd (not_true cut.0)
+cut_closes Usage held now lines cut = absurd (not_true cut.0)
+cut_closes ReadFault held now lines cut = absurd (not_true cut.0)
+cut_closes WriteFault held now lines cut = cut.1
+cut_closes Memory held now lines cut = cut.1
+
+pub cut_breaks : (status : Status) (held now : Option (List ℕ)) (lines : List OutLine) → IsCut status held now lines → Breaks status held now lines
+cut_breaks Done held now lines cut = absurd (not_true cut.0)
+cut_breaks Refused held now lines cut = absurd (not_true cut.0)
+cut_breaks Usage held now lines cut = absurd (not_true cut.0)
+cut_breaks ReadFault held now lines cut = absurd (not_true cut.0)
+cut_breaks WriteFault held now lines cut = cut.1
+cut_breaks Memory held now lines cut = cut.1

@@ -4,8 +4,9 @@ use Rattle.std.specs.List.{list_any}
 use Rattle.px_io.specs.Flows.{AddsTo}
 use Rattle.px_feed.specs.declared.line.OutLine.{OutLine}
 use Rattle.px_feed.specs.declared.status.Status.{Status}
+use Rattle.px_feed.specs.declared.status.Status.TheVariants.{Done, Refused, ReadFault, WriteFault, Memory}
 use Rattle.px_feed.specs.Lines.{is_refusal}
-use Rattle.px_feed.specs.Outputs.{text_of}
+use Rattle.px_feed.specs.Outputs.{text_of, status_of}
 use Rattle.xpush.specs.Answers.{is_cut_short}
 use Rattle.xpush.specs.Fronts.{AddsFront}
 use Rattle.xpush.specs.declared.outgoing.Outgoing.{Outgoing}
@@ -27,8 +28,29 @@ SaysOn result old new before now more =
     (held : Option (List ℕ)) (lines : List OutLine) → HasSaid old held before lines →
     OnOk result (HasSaid new held now (lines ++ more)) × IfErr result (λ status. IsCut status held now (lines ++ more))
 
+-- the same of a call that says nothing
+abbrev pub SaysStill : Result (Unit {0}) Status → (old new : Outgoing) → (before now : Option (List ℕ)) → Type 0
+SaysStill result old new before now =
+    (held : Option (List ℕ)) (lines : List OutLine) → HasSaid old held before lines →
+    OnOk result (HasSaid new held now lines) × IfErr result (λ status. IsCut status held now lines)
+
 -- what a call makes of them that writes all that waits
 abbrev pub WritesRest : Result (Unit {0}) Status → (old new : Outgoing) → (before now : Option (List ℕ)) → Type 0
 WritesRest result old new before now =
     (held : Option (List ℕ)) (lines : List OutLine) → HasSaid old held before lines →
     OnOk result (HasSaid new held now lines) × OnOk result (AddsTo held (text_of lines) now) × IfErr result (λ status. IsCut status held now lines)
+
+-- how a run ends that has said all its lines
+abbrev pub Closes : Status → (held now : Option (List ℕ)) → List OutLine → Type 0
+Closes Done held now lines = AddsTo held (text_of lines) now × (status_of lines ≡ Done)
+Closes Refused held now lines = AddsTo held (text_of lines) now × (status_of lines ≡ Refused)
+Closes WriteFault held now lines = AddsFront held (text_of lines) now
+Closes Memory held now lines = AddsFront held (text_of lines) now
+Closes _ held now lines = ⊥
+
+-- how a run ends whose source met a fault behind these lines
+abbrev pub Breaks : Status → (held now : Option (List ℕ)) → List OutLine → Type 0
+Breaks ReadFault held now lines = AddsTo held (text_of lines) now
+Breaks WriteFault held now lines = AddsFront held (text_of lines) now
+Breaks Memory held now lines = AddsFront held (text_of lines) now
+Breaks _ held now lines = ⊥

@@ -1,12 +1,14 @@
 //! Lines on their way to the sink.
 
-ghost use Rattle.std.specs.Prelude.{◌≡◌, ◌≤◌, ◌∷◌, [], List, ℕ, Option, Err};
+ghost use Rattle.std.specs.Prelude.{◌≡◌, ◌≤◌, ◌∷◌, ◌++◌, [], List, ℕ, Option, Err, if◌then◌else◌};
 ghost use Rattle.px_io.specs.Faults.{Rose};
+ghost use Rattle.px_feed.specs.declared.line.OutLine as out;
+ghost use Rattle.px_feed.specs.declared.line.OutLine.TheVariants as variants;
 ghost use Rattle.px_feed.specs.Lines.{is_refusal as refuses};
-ghost use Rattle.xpush.specs.Waiting.{HasSaid, SaysOn, WritesRest};
+ghost use Rattle.xpush.specs.Waiting.{HasSaid, SaysOn, SaysStill, WritesRest, Closes, Breaks};
 
 use crate::output::{Written, write_whole};
-use px_feed::{OutLine, Status, line_of};
+use px_feed::{FeedFault, OutLine, Status, line_of};
 use px_io::Sink;
 use std::alloc::Global;
 
@@ -66,11 +68,54 @@ impl Outgoing {
         }
     }
 
-    /// Whether one of the lines was a refusal.
-    pub fn refused(&self) -> bool
-        ensures { result ≡ self.now.refused }
+    /// Writes all that waits where that is wanted.
+    pub fn write_if<K: Sink>(&mut self, wanted: bool, sink: &mut K) -> Result<(), Status>
+        ensures says { SaysStill result self.old self.new (K.held sink.old) (K.held sink.new) }
+        ensures write_fault { result ≡ Err Status.WriteFault → Rose (K.faults sink.old) (K.faults sink.new) }
+        ensures never_falls { K.faults sink.old ≤ K.faults sink.new }
     {
-        self.refused
+        if wanted {
+            return self.write(sink);
+        }
+        Ok(())
+    }
+
+    /// Writes all that waits at the end of a run, and answers its status: `Refused` where one of
+    /// its lines was a refusal.
+    pub fn finish<K: Sink>(&mut self, sink: &mut K) -> Status
+        ensures closes { (held : Option (List ℕ)) (lines : List out.OutLine) → HasSaid self.old held (K.held sink.old) lines → Closes result held (K.held sink.new) lines }
+        ensures write_fault { result ≡ Status.WriteFault → Rose (K.faults sink.old) (K.faults sink.new) }
+        ensures never_falls { K.faults sink.old ≤ K.faults sink.new }
+    {
+        match self.write(sink) {
+            Ok(()) => ending(self.refused),
+            Err(status) => status,
+        }
+    }
+
+    /// Says the line of a fault, which is the last, and ends the run.
+    pub fn refuse<K: Sink>(&mut self, alloc: Global, fault: FeedFault, sink: &mut K) -> Status
+        ensures closes { (held : Option (List ℕ)) (lines : List out.OutLine) → HasSaid self.old held (K.held sink.old) lines →
+            Closes result held (K.held sink.new) (lines ++ variants.Faulty fault ∷ []) }
+        ensures write_fault { result ≡ Status.WriteFault → Rose (K.faults sink.old) (K.faults sink.new) }
+        ensures never_falls { K.faults sink.old ≤ K.faults sink.new }
+    {
+        match self.say(alloc, &OutLine::Faulty(fault), sink) {
+            Ok(()) => self.finish(sink),
+            Err(status) => status,
+        }
+    }
+
+    /// Writes all that waits in a run whose source met a fault, and answers its status.
+    pub fn break_off<K: Sink>(&mut self, sink: &mut K) -> Status
+        ensures breaks { (held : Option (List ℕ)) (lines : List out.OutLine) → HasSaid self.old held (K.held sink.old) lines → Breaks result held (K.held sink.new) lines }
+        ensures write_fault { result ≡ Status.WriteFault → Rose (K.faults sink.old) (K.faults sink.new) }
+        ensures never_falls { K.faults sink.old ≤ K.faults sink.new }
+    {
+        match self.write(sink) {
+            Ok(()) => Status::ReadFault,
+            Err(status) => status,
+        }
     }
 
     /// Takes a line in.
@@ -86,6 +131,17 @@ impl Outgoing {
         }
         self.refused |= is_refusal(line);
         Ok(())
+    }
+}
+
+/// How a run ends that has written all its lines.
+fn ending(refused: bool) -> Status
+    ensures { result ≡ (if refused then Status.Refused else Status.Done) }
+{
+    if refused {
+        Status::Refused
+    } else {
+        Status::Done
     }
 }
 
