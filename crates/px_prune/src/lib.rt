@@ -8,8 +8,6 @@ mod firsts;
 mod needs;
 mod pushing;
 mod rows;
-#[cfg(test)]
-mod tests;
 
 pub use firsts::first;
 pub use needs::Needs;
