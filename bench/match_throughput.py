@@ -1,8 +1,6 @@
 #!/usr/bin/env python3
 """Times the built xpush over 64 MB of PYX, beside 'wc -l' and 'xmllint --stream' on the same data.
 
-A row of its own is xpush under a filter with ten steps '//', beside the plain filter of the first row.
-
     bench/match_throughput.py [--binary FILE] [--runs N]
 
 A document may have 16 MB, so the 64 MB are four documents, made here from a fixed pattern and
@@ -17,7 +15,6 @@ import sys
 import tempfile
 import time
 
-TEN_STEPS = "//order//item0//a//b//c//d//e//f//g//h"
 DOCUMENTS = 4
 MOST = 16_700_000
 
@@ -59,11 +56,7 @@ def main():
         write_documents(folder)
         pyx = [folder / ("%d.pyx" % n) for n in range(DOCUMENTS)]
         xml = [folder / ("%d.xml" % n) for n in range(DOCUMENTS)]
-        rows = [
-            ("xpush match", [options.binary, "match", "/order[@id<0]"], pyx, False),
-            ("xpush match, 10 //", [options.binary, "match", TEN_STEPS], pyx, False),
-            ("wc -l", ["wc", "-l"], pyx, False),
-        ]
+        rows = [("xpush match", [options.binary, "match", "/order[@id<0]"], pyx, False), ("wc -l", ["wc", "-l"], pyx, False)]
         if shutil.which("xmllint"):
             rows.append(("xmllint --stream", ["xmllint", "--stream", "--noout", "--huge"], xml, True))
         else:

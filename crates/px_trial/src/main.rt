@@ -4,33 +4,23 @@
 //! each document by the machine and by the plain evaluator, and prints how many documents there
 //! were, how many ids, and for how many documents the two differ. It ends with 1 where they do, and
 //! with 2 where a trial was cut short.
-//!
-//! `px_trial times N` builds a program of N generated filters, and prints how long that took and how
-//! long each function on sets of states takes.
 #![tactic(auto)]
 
 mod compare;
 mod document;
-mod times;
 mod trouble;
 mod workload;
 
 use compare::{Counts, compare};
-use px_feed::id_of;
 use px_io::{Source, StdSource};
 use std::alloc::Global;
 use std::env;
 use std::env::Env;
 use std::io::{ErrorKind, Stdin};
 use std::process::ExitCode;
-use std::time::Clock;
-use times::times;
 use trouble::Trouble;
 
-const USAGE: &str = "usage: px_trial compare | times N";
-
-/// The most filters of which times are printed.
-const MOST_FILTERS: u32 = 100_000;
+const USAGE: &str = "usage: px_trial compare";
 
 /// The words behind the program's name.
 fn words_of(rt: &(impl Env + Alloc<A = Global>)) -> Result<Vec<String>, Trouble> {
@@ -57,23 +47,6 @@ fn print_comparison<S: Source>(
     }
 }
 
-/// Prints how long the build and the functions take for as many filters as a word says: the status.
-fn print_times(
-    rt: &(impl Clock + Print + Alloc<A = Global>),
-    word: Option<&String>,
-) -> Result<u8, Trouble> {
-    let Some(word) = word else {
-        return Err(Trouble::Usage);
-    };
-    match id_of(word.as_str().as_bytes()) {
-        Some(count) if count <= MOST_FILTERS => {
-            times(rt, rt.alloc(), count)?;
-            Ok(0)
-        }
-        Some(_) | None => Err(Trouble::Usage),
-    }
-}
-
 /// Prints how the program is called.
 fn print_usage(rt: &impl Print) -> Result<u8, Trouble> {
     match println!(rt; "{USAGE}") {
@@ -84,14 +57,13 @@ fn print_usage(rt: &impl Print) -> Result<u8, Trouble> {
 
 /// Does what the words ask for: the status.
 fn run<S: Source>(
-    rt: &(impl Clock + Env + Print + Alloc<A = Global>),
+    rt: &(impl Env + Print + Alloc<A = Global>),
     source: &mut S,
 ) -> Result<u8, Trouble> {
     let words = words_of(rt)?;
     match words.first() {
         None => print_usage(rt),
         Some(word) if word.as_str() == "compare" => print_comparison(rt, source),
-        Some(word) if word.as_str() == "times" => print_times(rt, words.get(1)),
         Some(_) => Err(Trouble::Usage),
     }
 }

@@ -18,8 +18,6 @@ pub enum Trouble {
     Read,
     /// Standard output met a fault.
     Write,
-    /// The clock gave no time.
-    Clock,
     /// Memory was refused.
     Memory,
 }
@@ -28,13 +26,12 @@ impl Trouble {
     /// What standard error is told.
     pub fn message(self) -> &'static str {
         match self {
-            Trouble::Usage => "usage: px_trial compare | times N, of at most 100000 filters",
+            Trouble::Usage => "usage: px_trial compare",
             Trouble::Feed => "the feed is at fault, or has more than adds and documents",
             Trouble::Filter => "a filter is at fault",
             Trouble::Full => "the filters are too many or too large",
             Trouble::Read => "read fault",
             Trouble::Write => "write fault",
-            Trouble::Clock => "the clock gives no time",
             Trouble::Memory => "out of memory",
         }
     }
