@@ -29,3 +29,4 @@ pub mod TokenShapes
 pub mod Nesting
 pub mod ShortNumbers
 pub mod Ties
+pub mod Total

@@ -1,10 +1,12 @@
-//! Laws of the definitions: where tokens begin a filter, and that they write at most one.
+//! Laws of the definitions: where tokens begin a filter, that they write at most one, and that
+//! every text is a filter or has a fault.
 
-ghost use Rattle.std.specs.Prelude.{◌≡◌, ◌↔◌, List, true, IsSome};
+ghost use Rattle.std.specs.Prelude.{◌≡◌, ◌↔◌, ◌⊎◌, ℕ, List, true, IsSome};
+ghost use Rattle.px_xpath.specs.declared.fault.FilterFault.{FilterFault};
 ghost use Rattle.px_xpath.specs.Filters.{Way};
 ghost use Rattle.px_xpath.specs.Tokens as tokens;
 ghost use Rattle.px_xpath.specs.Grammar.{Writes};
-ghost use Rattle.px_xpath.specs.Faults.{Begins};
+ghost use Rattle.px_xpath.specs.Faults.{Begins, HasFault, IsText};
 ghost use Rattle.px_xpath.specs.Machine.{Start, accepts, reaches};
 
 /// Tokens begin a filter exactly where the machine goes on behind them, and write one exactly
@@ -17,4 +19,9 @@ pub fn machine_is_right()
 /// Tokens write at most one filter.
 pub fn writes_at_most_one()
     ensures { (ts : List tokens.Token) (filter other : Way) → Writes ts filter → Writes ts other → filter ≡ other }
+{}
+
+/// Every text is a filter or has a fault.
+pub fn every_text_is_read_or_refused()
+    ensures { (text : List ℕ) → ((filter : Way) × IsText text filter) ⊎ ((fault : FilterFault) × HasFault text fault) }
 {}
