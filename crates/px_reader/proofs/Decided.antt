@@ -13,7 +13,7 @@ use Rattle.px_reader.specs.Verdicts.{Verdict, IsFaulty, IsTree, Judges, HasVerdi
 use Rattle.px_reader.proofs.Judged.{judged_none, judged_empty, judged_more, judged_big, judged_long, judged_not_utf8, judged_not_here, judged_deep, judged_many, judged_truncated, judged_tree}
 use Rattle.px_reader.proofs.Pieces.{judged_depth, judged_attributes}
 
-abbrev HasOne : List (List ℕ) → Type 0
+abbrev pub HasOne : List (List ℕ) → Type 0
 HasOne lines = (verdict : Verdict) × Judges lines verdict
 
 empty_or_not : (line : Line) → (line ≡ Empty) ⊎ (line ≡ Empty → ⊥)
@@ -25,7 +25,7 @@ empty_or_not Passed = inr (λ e. absurd (cc))
 empty_or_not Empty = inl refl
 empty_or_not Odd = inr (λ e. absurd (cc))
 
-utf8_or_not : (line : List ℕ) → IsUtf8 line ⊎ (IsUtf8 line → ⊥)
+pub utf8_or_not : (line : List ℕ) → IsUtf8 line ⊎ (IsUtf8 line → ⊥)
 utf8_or_not line = on (is_utf8 line) refl
   where
     on : (t : Bool) → is_utf8 line ≡ t → IsUtf8 line ⊎ (IsUtf8 line → ⊥)
@@ -80,7 +80,7 @@ judged_next lines state given line more j next = big (cases_lt 16_777_216 (sum_b
     big (inl l) = (IsFaulty (length lines + 1) TooBig, judged_big lines state given line more j l)
     big (inr size) = long size (cases_lt 1_048_576 (length (without_end line)))
 
-judged_from : (rest lines : List (List ℕ)) (state : State) (given : List Event) → Judged lines state given → HasOne (lines ++ rest)
+pub judged_from : (rest lines : List (List ℕ)) (state : State) (given : List Event) → Judged lines state given → HasOne (lines ++ rest)
 judged_from [] lines state given j = rw append-nil (ended lines state given j)
 judged_from (line ∷ more) lines state given j =
     judged_next lines state given line more j
