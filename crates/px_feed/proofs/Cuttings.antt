@@ -107,7 +107,7 @@ is_misplaced Starts d = absurd d
 is_misplaced Misplaced d = refl
 
 -- the first fault of a line outside documents
-first_long : (before : List (List ℕ)) (line : List ℕ) → bytes_in before + length line ≤ most_bytes → 1_048_576 < length (without_end line) →
+pub first_long : (before : List (List ℕ)) (line : List ℕ) → bytes_in before + length line ≤ most_bytes → 1_048_576 < length (without_end line) →
     IsFirst (ShowsOutside before line) (Doc LineLong)
 first_long before line size long = (long, none)
   where
@@ -121,7 +121,7 @@ first_long before line size long = (long, none)
     none (Doc TooManyAttributes) r s = s
     none (Doc Truncated) r s = s
 
-first_not_utf8 : (before : List (List ℕ)) (line : List ℕ) → bytes_in before + length line ≤ most_bytes → length (without_end line) ≤ 1_048_576 → (IsUtf8 line → ⊥) →
+pub first_not_utf8 : (before : List (List ℕ)) (line : List ℕ) → bytes_in before + length line ≤ most_bytes → length (without_end line) ≤ 1_048_576 → (IsUtf8 line → ⊥) →
     IsFirst (ShowsOutside before line) (Doc NotUtf8)
 first_not_utf8 before line size long bad = (bad, none)
   where
@@ -135,7 +135,7 @@ first_not_utf8 before line size long bad = (bad, none)
     none (Doc TooManyAttributes) r s = s
     none (Doc Truncated) r s = s
 
-first_not_here : (before : List (List ℕ)) (line : List ℕ) → bytes_in before + length line ≤ most_bytes → IsFit line → outside (without_end line) ≡ Misplaced →
+pub first_not_here : (before : List (List ℕ)) (line : List ℕ) → bytes_in before + length line ≤ most_bytes → IsFit line → outside (without_end line) ≡ Misplaced →
     IsFirst (ShowsOutside before line) (Doc NotHere)
 first_not_here before line size fit placed = (placed, none)
   where
@@ -246,7 +246,7 @@ at_the_line lines line l kind fine f = place f.k (length lines) (rw length_push 
 same_through : (lines : List (List ℕ)) (line : List ℕ) (rest : List (List ℕ)) → take (length lines + 1) (lines ++ line ∷ []) ≡ take (length lines + 1) (lines ++ line ∷ rest)
 same_through lines line rest = take_next lines line [] ∙ sym (take_next lines line rest)
 
-first_inside : (before lines : List (List ℕ)) (line : List ℕ) (rest : List (List ℕ)) (l : ℕ) (kind : DocKind) → ((k : ℕ) → k < length lines → IsFine lines k) →
+pub first_inside : (before lines : List (List ℕ)) (line : List ℕ) (rest : List (List ℕ)) (l : ℕ) (kind : DocKind) → ((k : ℕ) → k < length lines → IsFine lines k) →
     bytes_in before + bytes_in (lines ++ line ∷ []) ≤ most_bytes → Faulty (lines ++ line ∷ []) l kind → IsFirst (ShowsInside before (lines ++ line ∷ rest) (length lines)) (Doc kind)
 first_inside before lines line rest l kind fine fits f =
     (shows_same (lines ++ line ∷ []) (lines ++ line ∷ rest) (length lines) kind (same_through lines line rest) (subst (λ k. Shows (lines ++ line ∷ []) k kind) at f.shows), none)
@@ -301,7 +301,7 @@ pub has_begun : (document : Gathering) (before : List (List ℕ)) (inside : List
 has_begun document before inside given s some e = let n : length document.bytes.items ≡ 0 = ap length (s.gathered.bytes_are ∙ e) in omega arith
 
 -- lines up to the last, and one more
-open_more : (lines : List (List ℕ)) (line : List ℕ) (j : ℕ) → ((j : ℕ) (root : Root) → j ≤ length lines → Spells (take j lines) root → ⊥) →
+pub open_more : (lines : List (List ℕ)) (line : List ℕ) (j : ℕ) → ((j : ℕ) (root : Root) → j ≤ length lines → Spells (take j lines) root → ⊥) →
     ((root : Root) → Spells (lines ++ line ∷ []) root → ⊥) → (root : Root) → j ≤ length (lines ++ line ∷ []) → Spells (take j (lines ++ line ∷ [])) root → ⊥
 open_more lines line j still last root l spells = on (place j (length lines) (rw length_push at l))
   where
@@ -518,7 +518,7 @@ pub trouble_ends : (before : List (List ℕ)) (line : List ℕ) (given : List It
 trouble_ends before line given n NoMemory f = tt
 trouble_ends before line given n (Kind kind) f = subst (λ ls. Gives [] ls given (AtFault n (Doc kind))) (append-nil (before ++ line ∷ [])) (f [])
 
-first_big : (before lines : List (List ℕ)) (line : List ℕ) (rest : List (List ℕ)) → most_bytes < bytes_in before + bytes_in (lines ++ line ∷ []) →
+pub first_big : (before lines : List (List ℕ)) (line : List ℕ) (rest : List (List ℕ)) → most_bytes < bytes_in before + bytes_in (lines ++ line ∷ []) →
     IsFirst (ShowsInside before (lines ++ line ∷ rest) (length lines)) FeedLong
 first_big before lines line rest long = (subst (λ ls. most_bytes < bytes_in before + bytes_in ls) (sym (take_next lines line rest)) long, λ other r s. absurd (omega arith))
 

@@ -40,9 +40,11 @@ pub record Opening (before lines : List (List ℕ)) : Type 0 where
   pub lines_are : lines ≡ first ∷ more
   pub begins : Begins before first
 
-pub leads_document : (before lines : List (List ℕ)) (given : List Item) (root : Root) → Leads before given → Opening before lines → IsWhole before lines root →
-    Leads (before ++ lines) (given ++ Showing root ∷ [])
-leads_document before lines given root leads o whole rest items stop g = again before lines rest given (Showing root ∷ []) items stop (leads (lines ++ rest) (Showing root ∷ items) stop one)
+-- a document, and what stands behind it
+pub gives_document : (before lines rest : List (List ℕ)) (root : Root) (items : List Item) (stop : Stop) → Opening before lines → IsWhole before lines root →
+    Gives (before ++ lines) rest items stop → Gives before (lines ++ rest) (Showing root ∷ items) stop
+gives_document before lines rest root items stop o whole g =
+    subst (λ ls. Gives before (ls ++ rest) (Showing root ∷ items) stop) (sym o.lines_are) (document o.begins whole' behind)
   where
     whole' : IsWhole before (o.first ∷ o.more) root
     whole' = subst (λ ls. IsWhole before ls root) o.lines_are whole
@@ -50,8 +52,10 @@ leads_document before lines given root leads o whole rest items stop g = again b
     behind : Gives (before ++ o.first ∷ o.more) rest items stop
     behind = subst (λ ls. Gives (before ++ ls) rest items stop) o.lines_are g
 
-    one : Gives before (lines ++ rest) (Showing root ∷ items) stop
-    one = subst (λ ls. Gives before (ls ++ rest) (Showing root ∷ items) stop) (sym o.lines_are) (document o.begins whole' behind)
+pub leads_document : (before lines : List (List ℕ)) (given : List Item) (root : Root) → Leads before given → Opening before lines → IsWhole before lines root →
+    Leads (before ++ lines) (given ++ Showing root ∷ [])
+leads_document before lines given root leads o whole rest items stop g =
+    again before lines rest given (Showing root ∷ []) items stop (leads (lines ++ rest) (Showing root ∷ items) stop (gives_document before lines rest root items stop o whole g))
 
 -- the lines are all
 pub ended : (lines : List (List ℕ)) (given : List Item) → Leads lines given → Gives [] lines given AtEnd
@@ -69,26 +73,32 @@ fails_outside before line given kind n leads first e rest =
     (subst (λ ls. Gives [] ls given (AtFault (length before + 1) kind)) (sym (append_assoc before (line ∷ []) rest))
     (stopped before (line ∷ rest) given (AtFault (length before + 1) kind) leads (outside_faulty first)))
 
+-- a document with a fault
+pub gives_fault : (before lines : List (List ℕ)) (k : ℕ) (kind : FeedKind) → Opening before lines → k < length lines → GoesOn before lines k →
+    IsFirst (ShowsInside before lines k) kind → Gives before lines [] (AtFault (length before + k + 1) kind)
+gives_fault before lines k kind o l on first =
+    subst (λ ls. Gives before ls [] (AtFault (length before + k + 1) kind)) (sym o.lines_are)
+    (inside_faulty k o.begins (subst (λ ls. k < length ls) o.lines_are l) (subst (λ ls. GoesOn before ls k) o.lines_are on)
+    (subst (λ ls. IsFirst (ShowsInside before ls k) kind) o.lines_are first))
+
 pub fails_inside : (before lines : List (List ℕ)) (k : ℕ) (given : List Item) (kind : FeedKind) (n : ℕ) → Leads before given → Opening before lines → k < length lines →
     GoesOn before lines k → IsFirst (ShowsInside before lines k) kind → n ≡ length before + k + 1 → Gives [] (before ++ lines) given (AtFault n kind)
 fails_inside before lines k given kind n leads o l on first e =
-    subst (λ k. Gives [] (before ++ lines) given (AtFault k kind)) (sym e) (stopped before lines given (AtFault (length before + k + 1) kind) leads one)
-  where
-    one : Gives before lines [] (AtFault (length before + k + 1) kind)
-    one =
-        subst (λ ls. Gives before ls [] (AtFault (length before + k + 1) kind)) (sym o.lines_are)
-        (inside_faulty k o.begins (subst (λ ls. k < length ls) o.lines_are l) (subst (λ ls. GoesOn before ls k) o.lines_are on)
-        (subst (λ ls. IsFirst (ShowsInside before ls k) kind) o.lines_are first))
+    subst (λ k. Gives [] (before ++ lines) given (AtFault k kind)) (sym e)
+    (stopped before lines given (AtFault (length before + k + 1) kind) leads (gives_fault before lines k kind o l on first))
+
+-- a document that does not end
+pub gives_truncated : (before lines : List (List ℕ)) → Opening before lines → GoesOn before lines (length lines) →
+    Gives before lines [] (AtFault (length before + length lines) (Doc Truncated))
+gives_truncated before lines o on =
+    subst (λ ls. Gives before ls [] (AtFault (length before + length ls) (Doc Truncated))) (sym o.lines_are)
+    (truncated o.begins (subst (λ ls. GoesOn before ls (length ls)) o.lines_are on))
 
 pub truncates : (before lines : List (List ℕ)) (given : List Item) (n : ℕ) → Leads before given → Opening before lines → GoesOn before lines (length lines) →
     n ≡ length before + length lines → Gives [] (before ++ lines) given (AtFault n (Doc Truncated))
 truncates before lines given n leads o on e =
-    subst (λ k. Gives [] (before ++ lines) given (AtFault k (Doc Truncated))) (sym e) (stopped before lines given (AtFault (length before + length lines) (Doc Truncated)) leads one)
-  where
-    one : Gives before lines [] (AtFault (length before + length lines) (Doc Truncated))
-    one =
-        subst (λ ls. Gives before ls [] (AtFault (length before + length ls) (Doc Truncated))) (sym o.lines_are)
-        (truncated o.begins (subst (λ ls. GoesOn before ls (length ls)) o.lines_are on))
+    subst (λ k. Gives [] (before ++ lines) given (AtFault k (Doc Truncated))) (sym e)
+    (stopped before lines given (AtFault (length before + length lines) (Doc Truncated)) leads (gives_truncated before lines o on))
 
 -- lines of a document with one more
 pub opening_push : (before lines : List (List ℕ)) (line : List ℕ) (rest : List (List ℕ)) → (lines ≡ [] → Begins before line) →

@@ -6,3 +6,4 @@ pub mod Leading
 pub mod Pieces
 pub mod Replies
 pub mod Takings
+pub mod Total

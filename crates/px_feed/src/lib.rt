@@ -14,6 +14,7 @@ mod generator;
 mod id;
 mod item;
 mod joiner;
+mod laws;
 mod line;
 mod outside;
 mod status;
@@ -22,6 +23,7 @@ pub use feed::{Items, Taken};
 pub use generator::generate;
 pub use id::id_of;
 pub use item::Item;
+pub use laws::every_feed_has_items;
 pub use line::{FeedFault, FeedKind, OutLine, line_of};
 pub use status::Status;
 
