@@ -1,9 +1,9 @@
--- Every feed has items and a stop.
-use Rattle.std.proofs.Common.{◌≡◌, ℕ, zero, suc, ◌+◌, ◌<◌, ◌≤◌, ◌⊎◌, inl, inr, List, [], ◌∷◌, ◌++◌, length, take, refl, ap, sym, ◌∙◌, subst, append_assoc, append-nil, length-append, IsUtf8, arith}
+-- Every feed has items and a stop, and so an output.
+use Rattle.std.proofs.Common.{◌≡◌, ℕ, zero, suc, ◌+◌, ◌<◌, ◌≤◌, ◌⊎◌, inl, inr, List, [], ◌∷◌, ◌++◌, length, take, Result, Ok, Err, refl, ap, sym, ◌∙◌, subst, append_assoc, append-nil, length-append, IsUtf8, arith}
 use Rattle.std.proofs.lemmas.Bool.{cases_lt}
 use Rattle.std.proofs.lemmas.List.{length_push}
 use Rattle.px_text.specs.Nodes.{Root}
-use Rattle.px_reader.specs.Lines.{Line, Opens, without_end}
+use Rattle.px_reader.specs.Lines.{Line, Opens, lines_of, without_end}
 use Rattle.px_reader.specs.Machine as machine
 use Rattle.px_reader.specs.Spelling.{Spells, gives}
 use Rattle.px_reader.specs.Verdicts.{IsFine, Verdict, IsFaulty, IsTree, Judges}
@@ -13,8 +13,16 @@ use Rattle.px_reader.proofs.Decided.{judged_from, utf8_or_not}
 use Rattle.px_reader.proofs.Judged.{judged_none}
 use Rattle.px_reader.proofs.LineCuts.{take_lines}
 use Rattle.px_reader.proofs.Verdicts.{Faulty, Ends, split}
+use Rattle.px_xpath.specs.Filters.{Way}
+use Rattle.px_xpath.specs.Faults.{HasFault, IsText}
+use Rattle.px_xpath.specs.declared.fault.FilterFault.{FilterFault}
+use Rattle.px_xpath.proofs.Total.{read-or-refused}
+use Rattle.px_feed.specs.declared.line.OutLine.{OutLine}
+use Rattle.px_feed.specs.declared.status.Status.{Status}
 use Rattle.px_feed.specs.declared.line.FeedKind.TheVariants.{Doc, FeedLong}
-use Rattle.px_feed.specs.Items.{Item, Showing, Stop, AtEnd, AtFault, Outside, Skips, Brings, Starts, Misplaced, outside, GoesOn, IsWhole, Begins, Gives, no_lines, skips, brings, outside_faulty, bytes_in, most_bytes}
+use Rattle.px_feed.specs.Items.{Item, Adding, Removing, Replacing, Showing, Stop, AtEnd, AtFault, Outside, Skips, Brings, Starts, Misplaced, outside, GoesOn, IsWhole, Begins, Gives, no_lines, skips, brings, outside_faulty, bytes_in, most_bytes, HasItems}
+use Rattle.px_feed.specs.Matches.{Parses}
+use Rattle.px_feed.specs.Outputs.{Ask, AsksAdd, AsksDrop, AsksReplace, AsksMatches, Asks, AllAsk, AreLines, Out, id_of, lines_for, lines_at, text_of, status_of}
 use Rattle.px_feed.proofs.Leading.{Opening, gives_document, gives_fault, gives_truncated, goes_on, goes_on_all, is_whole_document}
 use Rattle.px_feed.proofs.Cuttings.{fine_outside, first_long, first_not_utf8, first_not_here, first_inside, first_big, open_more}
 
@@ -172,3 +180,38 @@ at_most (suc n) before (line ∷ lines) l = outside_line before line lines (λ b
 
 pub gives-some : (before lines : List (List ℕ)) → (items : List Item) × (stop : Stop) × Gives before lines items stop
 gives-some before lines = at_most (length lines) before lines (omega arith)
+
+-- a text is read or refused
+parses_some : (text : List ℕ) → (parsed : Result Way FilterFault) × Parses text parsed
+parses_some text = on (read-or-refused text)
+  where
+    on : ((filter : Way) × IsText text filter) ⊎ ((fault : FilterFault) × HasFault text fault) → (parsed : Result Way FilterFault) × Parses text parsed
+    on (inl (filter, is)) = (Ok filter, is)
+    on (inr (fault, has)) = (Err fault, has)
+
+ask_some : (item : Item) → (ask : Ask) × Asks item ask
+ask_some (Adding text) = let (parsed, p) = parses_some text in (AsksAdd parsed, p)
+ask_some (Removing text) = (AsksDrop (id_of text), refl)
+ask_some (Replacing name text) = let (parsed, p) = parses_some text in (AsksReplace (id_of name) parsed, (refl, p))
+ask_some (Showing root) = (AsksMatches root, refl)
+
+pub asks-some : (items : List Item) → (asks : List Ask) × AllAsk items asks
+asks-some [] = ([], tt)
+asks-some (item ∷ items) =
+    let (ask, a) = ask_some item in
+    let (asks, all) = asks-some items in
+    (ask ∷ asks, (a, all))
+
+pub lines-some : (items : List Item) → (lines : List OutLine) × AreLines items lines
+lines-some items = let (asks, a) = asks-some items in (lines_for [] asks, record { asks = asks; asked = a; lines_are = refl })
+
+-- the output of items and of how they stop
+pub out-of : (bytes : List ℕ) (items : List Item) (lines : List OutLine) (stop : Stop) → HasItems bytes items stop → AreLines items lines →
+    Out bytes (text_of (lines ++ lines_at stop)) (status_of (lines ++ lines_at stop))
+out-of bytes items lines stop has are = record { items = items; stop = stop; lines = lines; has_items = has; are_lines = are; written = refl; ended = refl }
+
+pub out-some : (bytes : List ℕ) → (text : List ℕ) × (status : Status) × Out bytes text status
+out-some bytes =
+    let (items, stop, has) = gives-some [] (lines_of bytes) in
+    let (lines, are) = lines-some items in
+    (text_of (lines ++ lines_at stop), status_of (lines ++ lines_at stop), out-of bytes items lines stop has are)
