@@ -7,3 +7,4 @@ pub mod Pieces
 pub mod Replies
 pub mod Takings
 pub mod Total
+pub mod Fronts
