@@ -8,3 +8,4 @@ pub mod Replies
 pub mod Takings
 pub mod Total
 pub mod Fronts
+pub mod Fewness
