@@ -11,13 +11,12 @@ use Rattle.px_feed.specs.declared.fault.Failure.TheVariants.{Fault, Memory}
 use Rattle.px_feed.specs.declared.feed.Ending.{Ending}
 use Rattle.px_feed.specs.declared.feed.Ending.TheVariants as ending
 use Rattle.px_feed.specs.declared.feed.Items.{Items}
-use Rattle.px_feed.specs.declared.feed.Step.{Step}
 use Rattle.px_feed.specs.declared.feed.Taken.{Taken}
 use Rattle.px_feed.specs.Cutting.{EndsBy}
 use Rattle.px_feed.specs.Endings.{ending_of, taken_of}
 use Rattle.px_feed.specs.Items.{Item, AreWhole, most_bytes}
-use Rattle.px_feed.specs.Joining.{Joined, FailsOn}
-use Rattle.px_feed.specs.Taking.{GoesFurther, HasTaken, Ends, Answers, TakesBy, StepAnswers, StepBy}
+use Rattle.px_feed.specs.Joining.{Joined, HasJoined, FailsOn, total}
+use Rattle.px_feed.specs.Taking.{GoesFurther, HasTaken, Ends, Answers, AnswersSoFar, unread, held}
 use Rattle.px_feed.proofs.Cuttings.{whole_lines}
 
 pub nothing_taken : (left : Option (List ℕ)) → TakesFrom left [] left
@@ -44,11 +43,17 @@ unread_all n xs = ap (λ k. take k xs) (less n)
     less : (n : ℕ) → n ≡ n - 0
     less n = omega arith
 
+pub nothing_unread : (n : ℕ) (xs : List ℕ) → take (n - n) (drop n xs) ≡ []
+nothing_unread n xs = ap (λ k. take k (drop n xs)) (none n)
+  where
+    none : (n : ℕ) → n - n ≡ 0
+    none n = omega arith
+
 -- an answer that read nothing
-pub read_nothing : (result : Step) (new : Items) (left after : Option (List ℕ)) (bytes : List ℕ) (given : List Item) → after ≡ left → StepAnswers result new after bytes given →
-    StepBy result new left after bytes given
+pub read_nothing : (result : Option Taken) (new : Items) (left after : Option (List ℕ)) (bytes : List ℕ) (given : List Item) → after ≡ left → AnswersSoFar result new after bytes given →
+    (more : List ℕ) × TakesFrom left more after × AnswersSoFar result new after (bytes ++ more) given
 read_nothing result new left after bytes given e answer =
-    ([], nothing_left left after e, subst (λ bs. StepAnswers result new after bs given) (sym (append-nil bytes)) answer)
+    ([], nothing_left left after e, subst (λ bs. AnswersSoFar result new after bs given) (sym (append-nil bytes)) answer)
 
 pub ends_failure : (failure : Failure) (left : Option (List ℕ)) (bytes : List ℕ) (given : List Item) → IsSpent left → EndsBy (Err failure) (lines_of bytes) given → Ends (ending_of failure) left bytes given
 ends_failure Memory left bytes given spent e = tt
@@ -93,16 +98,29 @@ not_ended items left bytes given none (inr (ended, spent, has)) = let e : Some e
 
 -- an answer has ended the feed: that nothing is left
 pub ended_already : (items : Items) (last : Ending) (result : Taken) (left : Option (List ℕ)) (bytes : List ℕ) (given : List Item) → items.ending ≡ Some last → result ≡ taken_of last →
-    HasTaken items left bytes given → TakesBy result items left left bytes given
+    HasTaken items left bytes given → Answers result items left bytes given
 ended_already items last result left bytes given some e (inl b) = let f : Some last ≡ None = sym some ∙ b.going in absurd (cc)
 ended_already items last result left bytes given some e (inr (ended, spent, has)) =
-    let same : last ≡ ending.End = same_Some last ending.End (sym some ∙ ended) in (
-      [],
-      nothing_taken left,
-      subst (λ bs. Answers result items left bs given) (sym (append-nil bytes))
-          (subst (λ taken. Answers taken items left bytes given) (sym (e ∙ ap taken_of same)) (spent, has)),
-    )
+    let same : last ≡ ending.End = same_Some last ending.End (sym some ∙ ended) in
+    subst (λ taken. Answers taken items left bytes given) (sym (e ∙ ap taken_of same)) (spent, has)
 
 pub answers_stop : (ending : Ending) (result : Taken) (items : Items) (left : Option (List ℕ)) (bytes : List ℕ) (given : List Item) → result ≡ taken_of ending →
     Ends ending left bytes given → Answers result items left bytes given
 answers_stop ending result items left bytes given e ends = subst (λ taken. Answers taken items left bytes given) (sym e) (answers_ending ending items left bytes given ends)
+
+-- Where the piece is all taken, the joiner has taken all bytes that were read.
+pub joined_all : (items : Items) (bytes : List ℕ) (given : List Item) → unread items ≡ [] → GoesFurther items bytes given → HasJoined items.joiner bytes given
+joined_all items bytes given none b =
+    subst (λ bs. HasJoined items.joiner bs given) (sym (b.bytes_are ∙ ap (λ bs. b.done ++ bs) none ∙ append-nil b.done)) b.joined
+
+-- and holds as many
+pub held_all : (items : Items) → unread items ≡ [] → held items ≡ total items.joiner
+held_all items none =
+    let l = unread_length items.at items.end items.piece.items items.ordered items.filled in
+    let n : length (unread items) ≡ 0 = ap length none in
+    omega arith
+
+-- Where no ending is kept, there is none.
+pub not_stopped : (o : Option Ending) → ((last : Ending) → o ≡ Some last → ⊥) → o ≡ None
+not_stopped None n = refl
+not_stopped (Some last) n = absurd (n last refl)

@@ -4,8 +4,6 @@ use Rattle.px_io.specs.Flows.{TakesFrom, IsSpent}
 use Rattle.px_feed.specs.declared.feed.Ending.{Ending}
 use Rattle.px_feed.specs.declared.feed.Ending.TheVariants.{End, Fault, ReadFault, Memory}
 use Rattle.px_feed.specs.declared.feed.Items.{Items}
-use Rattle.px_feed.specs.declared.feed.Step.{Step}
-use Rattle.px_feed.specs.declared.feed.Step.TheVariants as step
 use Rattle.px_feed.specs.declared.feed.Taken.{Taken}
 use Rattle.px_feed.specs.declared.feed.Taken.TheVariants as taken
 use Rattle.px_feed.specs.Effects.{IsItem}
@@ -55,23 +53,20 @@ Answers taken.Memory new left bytes given = Unit {0}
 abbrev pub TakesBy : Taken → Items → (left after : Option (List ℕ)) → (bytes : List ℕ) → List Item → Type 0
 TakesBy result new left after bytes given = (more : List ℕ) × TakesFrom left more after × Answers result new after (bytes ++ more) given
 
--- the same of a step
-abbrev pub StepAnswers : Step → Items → (left : Option (List ℕ)) → (bytes : List ℕ) → List Item → Type 0
-StepAnswers (step.Item item) new left bytes given = (brought : Item) × IsItem item brought × HasTaken new left bytes (given ++ brought ∷ [])
-StepAnswers (step.Stop ending) new left bytes given = Ends ending left bytes given
-StepAnswers step.More new left bytes given = GoesFurther new bytes given
+-- what is known behind an answer, or where there is none yet
+abbrev pub AnswersSoFar : Option Taken → Items → (left : Option (List ℕ)) → (bytes : List ℕ) → List Item → Type 0
+AnswersSoFar (Some taken) new left bytes given = Answers taken new left bytes given
+AnswersSoFar None new left bytes given = GoesFurther new bytes given
 
-abbrev pub StepBy : Step → Items → (left after : Option (List ℕ)) → (bytes : List ℕ) → List Item → Type 0
-StepBy result new left after bytes given = (more : List ℕ) × TakesFrom left more after × StepAnswers result new after (bytes ++ more) given
+-- Every byte that was read is taken, and no answer has ended the feed.
+abbrev pub IsDrained : Items → Type 0
+IsDrained items = (unread items ≡ []) × (items.ending ≡ None)
 
-abbrev pub StepsBy : Step → Items → Items → (left after : Option (List ℕ)) → Type 0
-StepsBy result old new left after = (bytes : List ℕ) (given : List Item) → GoesFurther old bytes given → StepBy result new left after bytes given
-
--- the same where the whole piece is taken
-abbrev pub Refills : Step → Items → Items → (left after : Option (List ℕ)) → Type 0
-Refills result old new left after = (bytes : List ℕ) (given : List Item) → HasJoined old.joiner bytes given → old.ending ≡ None → StepBy result new left after bytes given
+-- The next piece is read where all bytes that were read are taken.
+abbrev pub Refills : Option Taken → Items → Items → (left after : Option (List ℕ)) → Type 0
+Refills result old new left after =
+    (bytes : List ℕ) (given : List Item) → HasJoined old.joiner bytes given → old.ending ≡ None → (more : List ℕ) × TakesFrom left more after × AnswersSoFar result new after (bytes ++ more) given
 
 -- and where the bytes are all
-abbrev pub FinishesBy : Step → Items → Items → Type 0
-FinishesBy result old new =
-    (bytes : List ℕ) (given : List Item) (left : Option (List ℕ)) → HasJoined old.joiner bytes given → old.ending ≡ None → IsSpent left → StepAnswers result new left bytes given
+abbrev pub FinishesBy : Taken → Items → Items → Type 0
+FinishesBy result old new = (bytes : List ℕ) (given : List Item) (left : Option (List ℕ)) → HasJoined old.joiner bytes given → IsSpent left → Answers result new left bytes given

@@ -78,20 +78,11 @@ pub struct Items {
     ghost sized: { length piece.items ≡ 65_536 },
 }
 
-/// What comes of a piece.
-#[derive(Drop)]
-enum Step {
-    Item(Item),
-    Stop(Ending),
-    /// A further piece was read.
-    More,
-}
-
 impl Items {
-    ghost use Rattle.std.specs.Prelude.{◌≡◌, ◌≤◌, ◌<◌, ◌+◌, ◌⊎◌, [], List, ℕ, Option, Some, IfOk, length};
+    ghost use Rattle.std.specs.Prelude.{◌≡◌, ◌≤◌, ◌<◌, ◌+◌, ◌⊎◌, [], List, ℕ, Option, Some, None, IfOk, length};
     ghost use Rattle.px_io.specs.Faults.{Rose};
     ghost use Rattle.px_feed.specs.Items as items;
-    ghost use Rattle.px_feed.specs.Taking.{HasTaken, HasEnded, TakesBy, StepsBy, Refills, FinishesBy, held};
+    ghost use Rattle.px_feed.specs.Taking.{HasTaken, HasEnded, AnswersSoFar, IsDrained, TakesBy, Refills, FinishesBy, held};
     ghost use Rattle.px_feed.specs.Joining.{total};
 
     /// Before the first byte. It fails only where memory is refused.
@@ -107,6 +98,35 @@ impl Items {
         })
     }
 
+    /// The next item that the bytes read so far hold, or how the feed has ended; nothing where the
+    /// source has to be read for it. It reads nothing.
+    pub fn ready(&mut self) -> Option<Taken>
+        ensures takes { (left : Option (List ℕ)) (bytes : List ℕ) (given : List items.Item) → HasTaken self.old left bytes given →
+            AnswersSoFar result self.new left bytes given }
+        ensures whole { result ≡ None → (left : Option (List ℕ)) (bytes : List ℕ) (given : List items.Item) → HasTaken self.old left bytes given →
+            items.AreWhole bytes given }
+        ensures drained { result ≡ None → IsDrained self.new }
+        ensures holds { result ≡ None → held self.new ≡ held self.old }
+        ensures stops { (ending : Ending) → result ≡ Some (taken_of ending) → HasEnded self.new ending }
+        ensures stays { (ending : Ending) → HasEnded self.old ending → result ≡ Some (taken_of ending) }
+        ensures failed { result ≡ Some Taken.ReadFault → HasEnded self.old Ending.ReadFault }
+    {
+        if let Some(ending) = self.ending {
+            return Some(ending.taken());
+        }
+        match self.joiner.take(&self.piece.as_slice()[self.at..self.end]) {
+            Brought::Item { used, item } => {
+                self.at += used;
+                Some(Taken::Item(item))
+            }
+            Brought::Nothing => {
+                self.at = self.end;
+                None
+            }
+            Brought::Failed(failure) => Some(self.stop(Ending::of(failure))),
+        }
+    }
+
     /// The next item, for which the source is read on where it is needed. After every answer but
     /// an item that answer is given again, and nothing is read.
     pub fn next<S: Source>(&mut self, source: &mut S) -> Taken
@@ -119,74 +139,61 @@ impl Items {
         ensures failed { result ≡ Taken.ReadFault →
             HasEnded self.old Ending.ReadFault ⊎ Rose (S.faults source.old) (S.faults source.new) }
     {
-        if let Some(ending) = self.ending {
-            return ending.taken();
-        }
         for _ in 0..MOST_READS {
-            match self.step(source) {
-                Step::More => {}
-                Step::Item(item) => return Taken::Item(item),
-                Step::Stop(ending) => {
-                    self.ending = Some(ending);
-                    return ending.taken();
-                }
+            if let Some(taken) = self.ready() {
+                return taken;
+            }
+            if let Some(taken) = self.refill(source) {
+                return taken;
             }
         }
         unreachable!()
     }
 
-    /// Takes the rest of the piece up to the next item, or all of it and reads on.
-    fn step<S: Source>(&mut self, source: &mut S) -> Step
-        ensures steps { StepsBy result self.old self.new (S.left source.old) (S.left source.new) }
-        ensures more { result ≡ Step.More → held self.old < held self.new }
-        ensures going { result ≡ Step.More → self.new.ending ≡ self.old.ending }
-        ensures never_falls { S.faults source.old ≤ S.faults source.new }
-        ensures failed { result ≡ Step.Stop Ending.ReadFault → Rose (S.faults source.old) (S.faults source.new) }
-    {
-        match self.joiner.take(&self.piece.as_slice()[self.at..self.end]) {
-            Brought::Item { used, item } => {
-                self.at += used;
-                Step::Item(item)
-            }
-            Brought::Nothing => self.refill(source),
-            Brought::Failed(failure) => Step::Stop(Ending::of(failure)),
-        }
-    }
-
     /// Reads the next piece; at the end of the source the last line is taken.
-    fn refill<S: Source>(&mut self, source: &mut S) -> Step
+    fn refill<S: Source>(&mut self, source: &mut S) -> Option<Taken>
         ensures refills { Refills result self.old self.new (S.left source.old) (S.left source.new) }
-        ensures more { result ≡ Step.More → total self.old.joiner < held self.new }
-        ensures going { result ≡ Step.More → self.new.ending ≡ self.old.ending }
+        ensures more { result ≡ None → total self.old.joiner < held self.new }
+        ensures going { result ≡ None → self.new.ending ≡ self.old.ending }
+        ensures stops { (ending : Ending) → result ≡ Some (taken_of ending) → HasEnded self.new ending }
         ensures never_falls { S.faults source.old ≤ S.faults source.new }
-        ensures failed { result ≡ Step.Stop Ending.ReadFault → Rose (S.faults source.old) (S.faults source.new) }
+        ensures failed { result ≡ Some Taken.ReadFault → Rose (S.faults source.old) (S.faults source.new) }
     {
         self.at = 0;
         self.end = 0;
         match read_into(source, &mut self.piece) {
             ReadAnswer::Got(count) => {
                 self.end = count;
-                Step::More
+                None
             }
-            ReadAnswer::End => self.finish(),
-            ReadAnswer::Failed => Step::Stop(Ending::ReadFault),
+            ReadAnswer::End => Some(self.finish()),
+            ReadAnswer::Failed => Some(self.stop(Ending::ReadFault)),
         }
     }
 
     /// Takes the last line.
-    fn finish(&mut self) -> Step
+    fn finish(&mut self) -> Taken
         ensures ends { FinishesBy result self.old self.new }
-        ensures no_more { result ≡ Step.More → ⊥ }
-        ensures no_fault { result ≡ Step.Stop Ending.ReadFault → ⊥ }
+        ensures stops { (ending : Ending) → result ≡ taken_of ending → HasEnded self.new ending }
+        ensures no_fault { result ≡ Taken.ReadFault → ⊥ }
     {
         match self.joiner.finish() {
-            Ok(None) => Step::Stop(Ending::End),
+            Ok(None) => self.stop(Ending::End),
             Ok(Some(item)) => {
                 self.ending = Some(Ending::End);
-                Step::Item(item)
+                Taken::Item(item)
             }
-            Err(failure) => Step::Stop(Ending::of(failure)),
+            Err(failure) => self.stop(Ending::of(failure)),
         }
+    }
+
+    /// Ends the feed: from now on this is its answer.
+    fn stop(&mut self, ending: Ending) -> Taken
+        ensures answer { result ≡ taken_of ending }
+        ensures stops { (other : Ending) → result ≡ taken_of other → HasEnded self.new other }
+    {
+        self.ending = Some(ending);
+        ending.taken()
     }
 }
 

@@ -3,9 +3,9 @@
 use crate::feed::{Items, Taken};
 use crate::item::Item;
 use crate::line::{FeedFault, FeedKind};
-use px_io::MemSource;
+use px_io::{FailSource, MemSource};
 use px_reader::DocKind;
-use px_text::Bytes;
+use px_text::{Bytes, Words};
 use std::test::Fail;
 
 fn adds(taken: &Taken, text: &[u8]) -> bool {
@@ -99,5 +99,57 @@ fn an_empty_feed_ends(rt: HostRuntime) -> Result<(), Fail> {
     let mut source = MemSource::new(Bytes::of(rt.alloc(), b"")?);
     let mut items = Items::new(rt.alloc())?;
     assert!(rt; ends(&items.next(&mut source)));
+    Ok(())
+}
+
+fn has_ready(ready: &Option<Taken>, text: &[u8]) -> bool {
+    match ready {
+        Some(taken) => adds(taken, text),
+        None => false,
+    }
+}
+
+fn is_read_fault(ready: &Option<Taken>) -> bool {
+    match ready {
+        Some(Taken::ReadFault) => true,
+        _ => false,
+    }
+}
+
+fn has_ended(ready: &Option<Taken>) -> bool {
+    match ready {
+        Some(taken) => ends(taken),
+        None => false,
+    }
+}
+
+#[test]
+fn what_was_read_is_ready(rt: HostRuntime) -> Result<(), Fail> {
+    let alloc = rt.alloc();
+    let bytes = Bytes::of(alloc, b"+/a\n+/b\n+/c\n~1")?;
+    let mut source = FailSource::new(bytes, 10, Words::of(Vec::new(alloc)));
+    let mut items = Items::new(alloc)?;
+    assert!(rt; items.ready().is_none());
+    assert!(rt; adds(&items.next(&mut source), b"/a"));
+    assert!(rt; has_ready(&items.ready(), b"/b"));
+    assert!(rt; items.ready().is_none());
+    assert!(rt; items.ready().is_none());
+    assert!(rt; adds(&items.next(&mut source), b"/c"));
+    assert!(rt; items.ready().is_none());
+    assert!(rt; removes(&items.next(&mut source), b"1"));
+    assert!(rt; has_ended(&items.ready()));
+    Ok(())
+}
+
+#[test]
+fn a_read_fault_is_ready_again(rt: HostRuntime) -> Result<(), Fail> {
+    let alloc = rt.alloc();
+    let bytes = Bytes::of(alloc, b"+/a\n+/b\n")?;
+    let mut source = FailSource::new(bytes, 6, Words::of(vec![in alloc; 2]?));
+    let mut items = Items::new(alloc)?;
+    assert!(rt; adds(&items.next(&mut source), b"/a"));
+    assert!(rt; items.ready().is_none());
+    assert!(rt; is_read_fault(&Some(items.next(&mut source))));
+    assert!(rt; is_read_fault(&items.ready()));
     Ok(())
 }

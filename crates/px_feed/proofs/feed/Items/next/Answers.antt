@@ -1,40 +1,55 @@
--- Piece after piece is read, up to an item or the end.
-use Rattle.std.proofs.Common.{◌∙◌, ◌++◌, ◌∷◌, [], refl, sym, subst, append_assoc, append-nil, arith}
-use Rattle.px_feed.specs.Taking.{GoesFurther, HasTaken, Ends}
-use Rattle.px_feed.proofs.Takings.{nothing_taken, taken_on, answers_stop, ended_already, not_ended}
+-- What is ready is taken, and else piece after piece is read, up to an item or the end.
+use Rattle.std.proofs.Common.{◌≡◌, ◌∙◌, ◌++◌, [], Some, None, refl, sym, subst, append_assoc, append-nil, inl, arith}
+use Rattle.px_feed.specs.Taking.{GoesFurther, HasTaken, AnswersSoFar}
+use Rattle.px_feed.proofs.Takings.{nothing_taken, taken_on, joined_all, held_all, not_stopped}
 use Rattle.px_feed.proofs.feed.Items.next.Goals as goal
-
-pub returns-in-Some-clause-takes : goal.returns-in-Some-clause-takes
-returns-in-Some-clause-takes g c = λ bytes given t. ended_already c.args.self.now c.in-Some.ending c.taken.result (g.S.Source.left c.args.source.now) bytes given c.in-Some.is c.taken.ensures t
 
 pub loop-init : goal.loop-init
 loop-init g c = record {
-  read = λ bytes given b. ([], nothing_taken _, subst (λ bs. GoesFurther c.args.self.now bs given) (sym (append-nil bytes)) b);
+  read = λ bytes given t. ([], nothing_taken _, subst (λ bs. HasTaken c.args.self.now (g.S.Source.left c.args.source.now) bs given) (sym (append-nil bytes)) t);
   going = refl;
+  stays = λ ending ended. refl;
   many = omega arith;
   never_falls = omega arith;
 }
 
-pub returns-in-Item-clause-takes : goal.returns-in-Item-clause-takes
-returns-in-Item-clause-takes g c = λ bytes given h.
-    let (m, t, b1) = c.loop.invariant.read bytes given (not_ended c.args.self.now (g.S.Source.left c.args.source.now) bytes given c.in_default.is h) in
-    let (n, u, (brought, is, k)) = c.in-Item.ensures.steps (bytes ++ m) given b1 in
-    (m ++ n, taken_on _ _ _ m n t u, (brought, is, subst (λ bs. HasTaken c.step.new.self (g.S.Source.left c.step.new.source) bs (given ++ brought ∷ [])) (append_assoc bytes m n) k))
+pub returns-in-Some-clause-takes : goal.returns-in-Some-clause-takes
+returns-in-Some-clause-takes g c = λ bytes given t.
+    let (m, u, known) = c.loop.invariant.read bytes given t in
+    (m, u, c.in-Some.ensures.takes (g.S.Source.left c.loop.source) (bytes ++ m) given known)
 
-pub returns-in-Stop-clause-takes : goal.returns-in-Stop-clause-takes
-returns-in-Stop-clause-takes g c = λ bytes given h.
-    let (m, t, b1) = c.loop.invariant.read bytes given (not_ended c.args.self.now (g.S.Source.left c.args.source.now) bytes given c.in_default.is h) in
-    let (n, u, ends) = c.in-Stop.ensures.steps (bytes ++ m) given b1 in
-    let all = subst (λ bs. Ends c.in-Stop.ending (g.S.Source.left c.step.new.source) bs given) (append_assoc bytes m n) ends in
-    (m ++ n, taken_on _ _ _ m n t u, answers_stop c.in-Stop.ending c.taken-in-Stop.result _ (g.S.Source.left c.step.new.source) (bytes ++ (m ++ n)) given c.taken-in-Stop.ensures all)
+pub returns-in-Some-refill-clause-takes : goal.returns-in-Some-refill-clause-takes
+returns-in-Some-refill-clause-takes g c = λ bytes given t.
+    let (m, u, known) = c.loop.invariant.read bytes given t in
+    let b = c.in_default.ensures.takes (g.S.Source.left c.loop.source) (bytes ++ m) given known in
+    let d = c.in_default.ensures.drained refl in
+    let (n, v, answer) = c.in-Some-refill.ensures.refills (bytes ++ m) given (joined_all c.ready.new.self (bytes ++ m) given d.0 b) d.1 in
+    let after = g.S.Source.left c.refill.new.source in
+    (m ++ n, taken_on _ _ _ m n u v, subst (λ bs. AnswersSoFar (Some c.in-Some-refill.taken) c.refill.new.self after bs given) (append_assoc bytes m n) answer)
+
+pub returns-in-Some-refill-clause-stays : goal.returns-in-Some-refill-clause-stays
+returns-in-Some-refill-clause-stays g c = λ ending ended.
+    absurd (c.in_default.not-Some _ (c.ready.ensures.stays ending (c.loop.invariant.going ∙ ended)))
 
 pub loop-preserved : goal.loop-preserved
-loop-preserved g c = record {
-  read = λ bytes given b.
-      let (m, t, b1) = c.loop.invariant.read bytes given b in
-      let (n, u, b2) = c.in-More.ensures.steps (bytes ++ m) given b1 in
-      (m ++ n, taken_on _ _ _ m n t u, subst (λ bs. GoesFurther c.step.new.self bs given) (append_assoc bytes m n) b2);
-  going = c.in-More.ensures.going refl ∙ c.loop.invariant.going;
-  many = let m = c.in-More.ensures.more refl in let n = c.loop.invariant.many in omega arith;
-  never_falls = let m = c.in-More.ensures.never_falls in let n = c.loop.invariant.never_falls in omega arith;
-}
+loop-preserved g c =
+    let old = c.loop.self in
+    let d = c.in_default.ensures.drained refl in
+    let none : c.args.self.now.ending ≡ None =
+    sym c.loop.invariant.going ∙ not_stopped old.ending (λ last ended. c.in_default.not-Some _ (c.ready.ensures.stays last ended))
+    in record {
+      read = λ bytes given t.
+          let (m, u, known) = c.loop.invariant.read bytes given t in
+          let b = c.in_default.ensures.takes (g.S.Source.left c.loop.source) (bytes ++ m) given known in
+          let (n, v, b2) = c.in_default-refill.ensures.refills (bytes ++ m) given (joined_all c.ready.new.self (bytes ++ m) given d.0 b) d.1 in
+          (m ++ n, taken_on _ _ _ m n u v, inl (subst (λ bs. GoesFurther c.refill.new.self bs given) (append_assoc bytes m n) b2));
+      going = c.in_default-refill.ensures.going refl ∙ d.1 ∙ sym none;
+      stays = λ ending ended. let e : Some ending ≡ None = sym ended ∙ none in absurd (cc);
+      many =
+          let many = c.loop.invariant.many in
+          let held = c.in_default.ensures.holds refl in
+          let all = held_all c.ready.new.self d.0 in
+          let more = c.in_default-refill.ensures.more refl in
+          omega arith;
+      never_falls = let m = c.in_default-refill.ensures.never_falls in let n = c.loop.invariant.never_falls in omega arith;
+    }
