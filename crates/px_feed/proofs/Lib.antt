@@ -7,5 +7,6 @@ pub mod Pieces
 pub mod Replies
 pub mod Takings
 pub mod Total
+pub mod Unique
 pub mod Fronts
 pub mod Fewness
