@@ -1,5 +1,6 @@
 pub mod Gatherings
 pub mod Cuttings
+pub mod Faults
 pub mod Generating
 pub mod Joinings
 pub mod Leading

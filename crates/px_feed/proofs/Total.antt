@@ -24,7 +24,8 @@ use Rattle.px_feed.specs.Items.{Item, Adding, Removing, Replacing, Showing, Stop
 use Rattle.px_feed.specs.Matches.{Parses}
 use Rattle.px_feed.specs.Outputs.{Ask, AsksAdd, AsksDrop, AsksReplace, AsksMatches, Asks, AllAsk, AreLines, Out, id_of, lines_for, lines_at, text_of, status_of}
 use Rattle.px_feed.proofs.Leading.{Opening, gives_document, gives_fault, gives_truncated, goes_on, goes_on_all, is_whole_document}
-use Rattle.px_feed.proofs.Cuttings.{fine_outside, first_long, first_not_utf8, first_not_here, first_inside, first_big, open_more}
+use Rattle.px_feed.proofs.Cuttings.{fine_outside, open_more}
+use Rattle.px_feed.proofs.Faults.{first_long, first_not_utf8, first_not_here, first_inside, first_big}
 
 -- behind the lines before, the lines give some items and stop
 abbrev pub GivesSome : (before lines : List (List ℕ)) → Type 0

@@ -2,7 +2,8 @@
 use Rattle.std.proofs.Common.{◌++◌, Err, sym, subst}
 use Rattle.px_reader.specs.Lines.{lines_of}
 use Rattle.px_feed.specs.Cutting.{EndsBy}
-use Rattle.px_feed.proofs.Cuttings.{ends_tree, ends_fault, all_lines}
+use Rattle.px_feed.proofs.Cuttings.{ends_tree, all_lines}
+use Rattle.px_feed.proofs.Faults.{ends_fault}
 use Rattle.px_feed.proofs.cutter.Cutter.end_document.Goals as goal
 
 pub returns-in-Ok : goal.returns-in-Ok

@@ -6,7 +6,8 @@ use Rattle.px_reader.proofs.Feeding.{count_none, count_some}
 use Rattle.px_reader.proofs.LineCuts.{open_line}
 use Rattle.px_feed.specs.Cutting.{EndsBy, MayCome}
 use Rattle.px_feed.specs.Items.{Gives, AtEnd}
-use Rattle.px_feed.proofs.Cuttings.{has_begun, stands_outside, trouble_fails, trouble_ends}
+use Rattle.px_feed.proofs.Cuttings.{has_begun, stands_outside}
+use Rattle.px_feed.proofs.Faults.{trouble_fails, trouble_ends}
 use Rattle.px_feed.proofs.Leading.{ended}
 use Rattle.px_feed.proofs.cutter.Cutter.finish.Goals as goal
 

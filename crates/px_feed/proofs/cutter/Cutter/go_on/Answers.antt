@@ -3,7 +3,8 @@ use Rattle.std.proofs.Common.{◌∙◌, ◌+◌, ◌++◌, ◌∷◌, [], ap, s
 use Rattle.px_reader.specs.Lines.{lines_of}
 use Rattle.px_reader.specs.Reading.{IsLastFault}
 use Rattle.px_feed.specs.Cutting.{Fails}
-use Rattle.px_feed.proofs.Cuttings.{refused_inside, stands_on, stands_closed, no_fault, whole_more}
+use Rattle.px_feed.proofs.Cuttings.{stands_on, stands_closed, whole_more}
+use Rattle.px_feed.proofs.Faults.{refused_inside, no_fault}
 use Rattle.px_feed.proofs.cutter.Cutter.go_on.Goals as goal
 
 pub returns-in-Err-clause-cuts : goal.returns-in-Err-clause-cuts

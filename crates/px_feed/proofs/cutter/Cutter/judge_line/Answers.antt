@@ -2,7 +2,8 @@
 use Rattle.std.proofs.Common.{◌∙◌, ◌+◌, ◌++◌, ◌∷◌, [], ap, sym, subst, length}
 use Rattle.px_reader.proofs.Feeding.{count_none}
 use Rattle.px_feed.specs.Cutting.{Fails}
-use Rattle.px_feed.proofs.Cuttings.{trouble_fails, stands_outside}
+use Rattle.px_feed.proofs.Cuttings.{stands_outside}
+use Rattle.px_feed.proofs.Faults.{trouble_fails}
 use Rattle.px_feed.proofs.cutter.Cutter.judge_line.Goals as goal
 
 pub returns-in-Err-clause-cuts : goal.returns-in-Err-clause-cuts

@@ -1,7 +1,7 @@
 -- The line is too long, or its document too big with it.
 use Rattle.std.proofs.Common.{◌≡◌, ◌∙◌, ◌++◌, ◌∷◌, [], ◌+◌, ap, sym, subst, true, false}
 use Rattle.px_feed.specs.Cutting.{Fails}
-use Rattle.px_feed.proofs.Cuttings.{line_long_fails, too_big_fails}
+use Rattle.px_feed.proofs.Faults.{line_long_fails, too_big_fails}
 use Rattle.px_feed.proofs.cutter.Cutter.too_long.Goals as goal
 
 pub returns-then-leaves_room : goal.returns-then-leaves_room

@@ -2,7 +2,7 @@
 use Rattle.std.proofs.Common.{◌∙◌, ◌++◌, ◌∷◌, [], ◌+◌, ◌≤◌, ap, sym, subst}
 use Rattle.px_feed.specs.Cutting.{Fails}
 use Rattle.px_feed.specs.Items.{most_bytes}
-use Rattle.px_feed.proofs.Cuttings.{long_fails}
+use Rattle.px_feed.proofs.Faults.{long_fails}
 use Rattle.px_feed.proofs.cutter.Cutter.too_much.Goals as goal
 
 pub returns : goal.returns
