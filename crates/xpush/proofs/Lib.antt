@@ -1,6 +1,11 @@
 pub mod Answering
 pub mod Changing
 pub mod Documented
+pub mod FeedEnds
+pub mod FeedFronts
+pub mod FeedLines
+pub mod FeedPrograms
+pub mod FeedTaking
 pub mod Fronts
 pub mod Lines
 pub mod OptionReading

@@ -1,6 +1,6 @@
 -- What a run of the program answers.
 use Rattle.std.specs.Prelude.{◌≡◌, ◌++◌, ◌⊎◌, ℕ, Bool, true, false, List, [], Option, Some, IsTrue}
-use Rattle.px_io.specs.Flows.{AddsTo, IsSpent}
+use Rattle.px_io.specs.Flows.{TakesFrom, AddsTo, IsSpent}
 use Rattle.px_reader.specs.declared.fault.DocKind.TheVariants.{Truncated}
 use Rattle.px_feed.specs.declared.line.FeedKind.{FeedKind}
 use Rattle.px_feed.specs.declared.line.FeedKind.TheVariants.{Doc}
@@ -9,10 +9,12 @@ use Rattle.px_feed.specs.declared.line.OutLine.TheVariants.{NoFilter, Faulty, Ye
 use Rattle.px_feed.specs.declared.status.Status.{Status}
 use Rattle.px_feed.specs.declared.status.Status.TheVariants.{Done, Refused, WriteFault, Memory}
 use Rattle.px_feed.specs.Generator.{feed}
+use Rattle.px_feed.specs.Items.{Item, AreWhole}
 use Rattle.px_feed.specs.Lines.{line_text}
 use Rattle.px_feed.specs.Matches.{AnswersDocument, AnswersMatch, OutMatch, OutShow, status_behind}
+use Rattle.px_feed.specs.Outputs.{AreLines, Out, text_of}
 use Rattle.px_xpath.specs.Filters.{Way}
-use Rattle.xpush.specs.Forms.{Form, Makes, Matches, Shows}
+use Rattle.xpush.specs.Forms.{Form, Makes, Matches, Serves, Shows}
 
 abbrev pub is_truncated : FeedKind → Bool
 is_truncated (Doc Truncated) = true
@@ -61,11 +63,19 @@ pub record Made (seed filters documents : ℕ) (left after held held_after : Opt
   pub ended : status ≡ Done
   pub unread : after ≡ left
 
+-- A run of `serial` that was not cut short wrote the output for the feed that was left in the source. Where all went well the feed was read to its end.
+pub record Served (left after held held_after : Option (List ℕ)) (status : Status) : Type 0 where
+  pub text : List ℕ
+  pub is_for : (bytes : List ℕ) → left ≡ Some bytes → Out bytes text status
+  pub written : AddsTo held text held_after
+  pub read_whole : status ≡ Done → IsSpent after
+
 -- what a run that was not cut short answers
 abbrev pub Answers : Form → (left after held held_after : Option (List ℕ)) → Status → Type 0
 Answers (Matches filter) = Matched filter
 Answers (Shows filter) = Shown filter
 Answers (Makes seed filters documents) = Made seed filters documents
+Answers Serves = Served
 
 -- the text and the status of `make`
 abbrev pub OutMake : (seed filters documents : ℕ) → (text : List ℕ) → Status → Type 0
@@ -76,6 +86,7 @@ abbrev pub OutOf : Form → (bytes text : List ℕ) → Status → Type 0
 OutOf (Matches filter) bytes = OutMatch filter bytes
 OutOf (Shows filter) bytes = OutShow filter
 OutOf (Makes seed filters documents) bytes = OutMake seed filters documents
+OutOf Serves bytes = Out bytes
 
 -- These bytes are the front of the output: nothing yet, or a front of its text.
 abbrev pub IsFrontOfOut : Form → (bytes written : List ℕ) → Type 0
@@ -87,6 +98,21 @@ pub record WritesFront (form : Form) (left held held_after : Option (List ℕ)) 
   pub bytes_written : List ℕ
   pub written : AddsTo held bytes_written held_after
   pub is_front : (bytes : List ℕ) → left ≡ Some bytes → IsFrontOfOut form bytes bytes_written
+
+-- A run of `serial` whose source met a fault wrote the lines of the items that are whole in the bytes read.
+pub record ServedWhole (left after held held_after : Option (List ℕ)) : Type 0 where
+  pub bytes : List ℕ
+  pub read : TakesFrom left bytes after
+  pub items : List Item
+  pub are_whole : AreWhole bytes items
+  pub lines : List OutLine
+  pub are_lines : AreLines items lines
+  pub written : AddsTo held (text_of lines) held_after
+
+-- what a run whose source met a fault wrote: nothing, but of a feed the lines of its whole items
+abbrev pub WritesWhole : Form → (left after held held_after : Option (List ℕ)) → Type 0
+WritesWhole Serves left after held held_after = ServedWhole left after held held_after
+WritesWhole _ left after held held_after = held_after ≡ held
 
 -- the run was not cut short
 abbrev pub is_finished : Status → Bool

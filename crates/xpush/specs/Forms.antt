@@ -14,6 +14,7 @@ pub data Form : Type 0 where
   Matches : (filter : List ℕ) → Form
   Shows : (filter : List ℕ) → Form
   Makes : (seed filters documents : ℕ) → Form
+  Serves : Form
 
 -- `match FILTER` and `show FILTER`
 abbrev pub filter_form : List ℕ → List (List ℕ) → Option Form
@@ -37,16 +38,25 @@ makes _ = None
 abbrev pub make_form : List (List ℕ) → Option Form
 make_form words = option_and_then makes (values_in make_options words)
 
+-- `serial` alone
+abbrev pub serial_form : List (List ℕ) → Option Form
+serial_form [] = Some Serves
+serial_form _ = None
+
 -- what the words ask for, if they are in a form
 abbrev pub form_of : List (List ℕ) → Option Form
 form_of [] = None
-form_of (name ∷ words) = if bytes_eq name (codes "make") then make_form words else filter_form name words
+form_of (name ∷ words) =
+    if bytes_eq name (codes "make") then make_form words
+    else if bytes_eq name (codes "serial") then serial_form words
+    else filter_form name words
 
 -- the form that a command is
 abbrev pub form : Command → Form
 form (command.Match filter) = Matches filter.now
 form (command.Show filter) = Shows filter.now
 form (command.Make seed filters documents) = Makes seed filters documents
+form command.Serial = Serves
 
 -- the command is what the words ask for
 abbrev pub Says : List (List ℕ) → Option Command → Type 0

@@ -8,5 +8,6 @@ pub mod OptionWords
 pub mod Stops
 pub mod Showing
 pub mod Replying
+pub mod Standing
 pub mod Verdicts
 pub mod Waiting

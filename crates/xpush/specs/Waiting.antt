@@ -28,12 +28,6 @@ SaysOn result old new before now more =
     (held : Option (List ℕ)) (lines : List OutLine) → HasSaid old held before lines →
     OnOk result (HasSaid new held now (lines ++ more)) × IfErr result (λ status. IsCut status held now (lines ++ more))
 
--- the same of a call that says nothing
-abbrev pub SaysStill : Result (Unit {0}) Status → (old new : Outgoing) → (before now : Option (List ℕ)) → Type 0
-SaysStill result old new before now =
-    (held : Option (List ℕ)) (lines : List OutLine) → HasSaid old held before lines →
-    OnOk result (HasSaid new held now lines) × IfErr result (λ status. IsCut status held now lines)
-
 -- what a call makes of them that writes all that waits
 abbrev pub WritesRest : Result (Unit {0}) Status → (old new : Outgoing) → (before now : Option (List ℕ)) → Type 0
 WritesRest result old new before now =

@@ -16,6 +16,7 @@ mod output;
 pub mod plain;
 pub mod run;
 mod running;
+mod serving;
 mod showing;
 mod stop;
 #[cfg(test)]

@@ -33,7 +33,8 @@ pub fn match_document<S: Source, K: Sink>(
     ensures not_usage { result ≡ Status.Usage → ⊥ }
     ensures output { IsTrue (is_finished result) → Matched filter.now (S.left source.old) (S.left source.new) (K.held sink.old) (K.held sink.new) result }
     ensures front { IsTrue (is_cut_short result) → WritesFront (Matches filter.now) (S.left source.old) (K.held sink.old) (K.held sink.new) }
-    ensures read_fault { result ≡ Status.ReadFault → Rose (S.faults source.old) (S.faults source.new) × (K.held sink.new ≡ K.held sink.old) }
+    ensures read_fault { result ≡ Status.ReadFault → Rose (S.faults source.old) (S.faults source.new) }
+    ensures unwritten { result ≡ Status.ReadFault → K.held sink.new ≡ K.held sink.old }
     ensures write_fault { result ≡ Status.WriteFault → Rose (K.faults sink.old) (K.faults sink.new) }
     ensures source_counts { S.faults source.old ≤ S.faults source.new }
     ensures sink_counts { K.faults sink.old ≤ K.faults sink.new }

@@ -5,7 +5,7 @@ ghost use Rattle.px_io.specs.Faults.{Rose};
 ghost use Rattle.px_feed.specs.declared.line.OutLine as out;
 ghost use Rattle.px_feed.specs.declared.line.OutLine.TheVariants as variants;
 ghost use Rattle.px_feed.specs.Lines.{is_refusal as refuses};
-ghost use Rattle.xpush.specs.Waiting.{HasSaid, SaysOn, SaysStill, WritesRest, Closes, Breaks};
+ghost use Rattle.xpush.specs.Waiting.{HasSaid, SaysOn, WritesRest, Closes, Breaks};
 
 use crate::output::{Written, write_whole};
 use px_feed::{FeedFault, OutLine, Status, line_of};
@@ -66,18 +66,6 @@ impl Outgoing {
             Written::Failed => Err(Status::WriteFault),
             Written::Memory => Err(Status::Memory),
         }
-    }
-
-    /// Writes all that waits where that is wanted.
-    pub fn write_if<K: Sink>(&mut self, wanted: bool, sink: &mut K) -> Result<(), Status>
-        ensures says { SaysStill result self.old self.new (K.held sink.old) (K.held sink.new) }
-        ensures write_fault { result ≡ Err Status.WriteFault → Rose (K.faults sink.old) (K.faults sink.new) }
-        ensures never_falls { K.faults sink.old ≤ K.faults sink.new }
-    {
-        if wanted {
-            return self.write(sink);
-        }
-        Ok(())
     }
 
     /// Writes all that waits at the end of a run, and answers its status: `Refused` where one of

@@ -2,11 +2,12 @@
 
 ghost use Rattle.std.specs.Prelude.{◌≡◌, ◌≤◌, ◌↔◌, IfSome, IsNone, IsTrue};
 ghost use Rattle.px_io.specs.Faults.{Rose};
-ghost use Rattle.xpush.specs.Answers.{Answers, WritesFront, is_finished, is_cut_short};
+ghost use Rattle.xpush.specs.Answers.{Answers, WritesFront, WritesWhole, is_finished, is_cut_short};
 ghost use Rattle.xpush.specs.Forms.{form, form_of, texts};
 
 use crate::making::make_feed;
 use crate::matching::match_document;
+use crate::serving::serve_feed;
 use crate::showing::show_filter;
 use crate::words::{Command, command_of};
 use px_feed::Status;
@@ -16,7 +17,8 @@ use std::alloc::Global;
 /// Runs the command that the words are, from the source to the sink, and answers its status.
 ///
 /// At `Done` and `Refused` the bytes written are the whole output, and at `WriteFault` and
-/// `Memory` its front. After a read fault nothing is written. Words that are in no form read and
+/// `Memory` its front. After a read fault nothing is written, but for `serial`, which has written
+/// the lines of the items that are whole in the bytes read. Words that are in no form read and
 /// write nothing.
 pub fn plain<S: Source, K: Sink>(
     alloc: Global,
@@ -30,7 +32,9 @@ pub fn plain<S: Source, K: Sink>(
         Answers said (S.left source.old) (S.left source.new) (K.held sink.old) (K.held sink.new) result) }
     ensures front { IsTrue (is_cut_short result) → IfSome (form_of (texts words.now)) (λ said.
         WritesFront said (S.left source.old) (K.held sink.old) (K.held sink.new)) }
-    ensures read_fault { result ≡ Status.ReadFault → Rose (S.faults source.old) (S.faults source.new) × (K.held sink.new ≡ K.held sink.old) }
+    ensures read_fault { result ≡ Status.ReadFault → Rose (S.faults source.old) (S.faults source.new) }
+    ensures whole_items { result ≡ Status.ReadFault → IfSome (form_of (texts words.now)) (λ said.
+        WritesWhole said (S.left source.old) (S.left source.new) (K.held sink.old) (K.held sink.new)) }
     ensures write_fault { result ≡ Status.WriteFault → Rose (K.faults sink.old) (K.faults sink.new) }
     ensures source_counts { S.faults source.old ≤ S.faults source.new }
     ensures sink_counts { K.faults sink.old ≤ K.faults sink.new }
@@ -51,7 +55,8 @@ fn run_command<S: Source, K: Sink>(
     ensures not_usage { result ≡ Status.Usage → ⊥ }
     ensures output { IsTrue (is_finished result) → Answers (form command.entry) (S.left source.old) (S.left source.new) (K.held sink.old) (K.held sink.new) result }
     ensures front { IsTrue (is_cut_short result) → WritesFront (form command.entry) (S.left source.old) (K.held sink.old) (K.held sink.new) }
-    ensures read_fault { result ≡ Status.ReadFault → Rose (S.faults source.old) (S.faults source.new) × (K.held sink.new ≡ K.held sink.old) }
+    ensures read_fault { result ≡ Status.ReadFault → Rose (S.faults source.old) (S.faults source.new) }
+    ensures whole_items { result ≡ Status.ReadFault → WritesWhole (form command.entry) (S.left source.old) (S.left source.new) (K.held sink.old) (K.held sink.new) }
     ensures write_fault { result ≡ Status.WriteFault → Rose (K.faults sink.old) (K.faults sink.new) }
     ensures source_counts { S.faults source.old ≤ S.faults source.new }
     ensures sink_counts { K.faults sink.old ≤ K.faults sink.new }
@@ -64,5 +69,6 @@ fn run_command<S: Source, K: Sink>(
             filters,
             documents,
         } => make_feed(alloc, seed, filters, documents, sink),
+        Command::Serial => serve_feed(alloc, source, sink),
     }
 }

@@ -2,7 +2,7 @@
 
 ghost use Rattle.std.specs.Prelude.{◌≡◌, ◌≤◌, ◌↔◌, IfSome, IsNone, IsTrue};
 ghost use Rattle.px_io.specs.Faults.{Rose};
-ghost use Rattle.xpush.specs.Answers.{Answers, WritesFront, is_finished, is_cut_short};
+ghost use Rattle.xpush.specs.Answers.{Answers, WritesFront, WritesWhole, is_finished, is_cut_short};
 ghost use Rattle.xpush.specs.Forms.{form_of, texts};
 
 use crate::plain::plain;
@@ -30,7 +30,9 @@ pub fn run<R: Threads + Wait + Sync, S: Source, K: Sink, G: Gate>(
         Answers said (S.left source.old) (S.left source.new) (K.held sink.old) (K.held sink.new) result) }
     ensures front { IsTrue (is_cut_short result) → IfSome (form_of (texts words.now)) (λ said.
         WritesFront said (S.left source.old) (K.held sink.old) (K.held sink.new)) }
-    ensures read_fault { result ≡ Status.ReadFault → Rose (S.faults source.old) (S.faults source.new) × (K.held sink.new ≡ K.held sink.old) }
+    ensures read_fault { result ≡ Status.ReadFault → Rose (S.faults source.old) (S.faults source.new) }
+    ensures whole_items { result ≡ Status.ReadFault → IfSome (form_of (texts words.now)) (λ said.
+        WritesWhole said (S.left source.old) (S.left source.new) (K.held sink.old) (K.held sink.new)) }
     ensures write_fault { result ≡ Status.WriteFault → Rose (K.faults sink.old) (K.faults sink.new) }
     ensures source_counts { S.faults source.old ≤ S.faults source.new }
     ensures sink_counts { K.faults sink.old ≤ K.faults sink.new }

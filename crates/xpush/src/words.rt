@@ -1,7 +1,7 @@
 //! Which command the words of the command line are.
 
 ghost use Rattle.std.specs.Prelude.{◌≡◌, option_map};
-ghost use Rattle.xpush.specs.Forms.{Says, filter_form, form, make_form, texts};
+ghost use Rattle.xpush.specs.Forms.{Says, filter_form, form, make_form, serial_form, texts};
 
 use crate::options::{CommandOption, read_options};
 
@@ -22,6 +22,8 @@ pub enum Command<'a> {
         filters: u32,
         documents: u32,
     },
+    /// What a feed is answered, on one thread.
+    Serial,
 }
 
 /// The options of `make`.
@@ -53,6 +55,8 @@ pub fn command_of(words: &[String]) -> Option<Command<'_>>
     let (name, rest) = words.split_first()?;
     if name.as_str() == "make" {
         make_command(rest)
+    } else if name.as_str() == "serial" {
+        serial_command(rest)
     } else {
         filter_command(name.as_str(), rest)
     }
@@ -89,4 +93,15 @@ fn make_command(words: &[String]) -> Option<Command<'_>>
         filters,
         documents,
     })
+}
+
+/// The command `serial`, which has no words behind its name.
+fn serial_command(words: &[String]) -> Option<Command<'_>>
+    ensures { option_map form result ≡ serial_form (texts words.now) }
+{
+    if words.is_empty() {
+        Some(Command::Serial)
+    } else {
+        None
+    }
 }

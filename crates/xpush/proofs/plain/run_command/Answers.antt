@@ -1,7 +1,7 @@
 -- Each command answers for its form.
 use Rattle.std.proofs.Common.{sym, subst}
 use Rattle.xpush.specs.declared.words.Command.{Command}
-use Rattle.xpush.specs.Answers.{Answers}
+use Rattle.xpush.specs.Answers.{Answers, WritesFront, WritesWhole}
 use Rattle.xpush.specs.Forms.{form}
 use Rattle.xpush.proofs.plain.run_command.Goals as goal
 
@@ -25,3 +25,30 @@ returns-in-Make-clause-output g c = λ t.
     Answers (form command) (g.S.Source.left c.args.source.now) (g.S.Source.left c.args.source.now) (g.K.Sink.held c.args.sink.now)
     (g.K.Sink.held c.make_feed.new.sink) c.make_feed.result in
     subst P (sym c.in-Make.is) (c.make_feed.ensures.output t (g.S.Source.left c.args.source.now))
+
+pub returns-in-Serial-clause-output : goal.returns-in-Serial-clause-output
+returns-in-Serial-clause-output g c = λ t.
+    let P : Command → Type 0 = λ command.
+    Answers (form command) (g.S.Source.left c.args.source.now) (g.S.Source.left c.serve_feed.new.source) (g.K.Sink.held c.args.sink.now)
+    (g.K.Sink.held c.serve_feed.new.sink) c.serve_feed.result in
+    subst P (sym c.in-Serial.is) (c.serve_feed.ensures.output t)
+
+pub returns-in-Serial-clause-front : goal.returns-in-Serial-clause-front
+returns-in-Serial-clause-front g c = λ t.
+    let P : Command → Type 0 = λ command.
+    WritesFront (form command) (g.S.Source.left c.args.source.now) (g.K.Sink.held c.args.sink.now) (g.K.Sink.held c.serve_feed.new.sink) in
+    subst P (sym c.in-Serial.is) (c.serve_feed.ensures.front t)
+
+pub returns-in-Serial-clause-whole_items : goal.returns-in-Serial-clause-whole_items
+returns-in-Serial-clause-whole_items g c = λ e.
+    let P : Command → Type 0 = λ command.
+    WritesWhole (form command) (g.S.Source.left c.args.source.now) (g.S.Source.left c.serve_feed.new.source) (g.K.Sink.held c.args.sink.now)
+    (g.K.Sink.held c.serve_feed.new.sink) in
+    subst P (sym c.in-Serial.is) (c.serve_feed.ensures.whole_items e)
+
+pub returns-in-Match-clause-whole_items : goal.returns-in-Match-clause-whole_items
+returns-in-Match-clause-whole_items g c = λ e.
+    let P : Command → Type 0 = λ command.
+    WritesWhole (form command) (g.S.Source.left c.args.source.now) (g.S.Source.left c.match_document.new.source) (g.K.Sink.held c.args.sink.now)
+    (g.K.Sink.held c.match_document.new.sink) in
+    subst P (sym c.in-Match.is) (c.match_document.ensures.unwritten e)

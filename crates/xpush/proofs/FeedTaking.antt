@@ -1,0 +1,171 @@
+-- What a run of `serial` knows as it takes items from its feed.
+use Rattle.std.proofs.Common.{◌≡◌, ℕ, ◌+◌, ◌≤◌, ◌⊎◌, List, [], ◌∷◌, ◌++◌, length, Option, refl, ap, sym, ◌∙◌, subst, inl, inr, arith, append-nil, length-append}
+use Rattle.px_io.specs.Faults.{Rose}
+use Rattle.px_io.proofs.Counts.{rose_later}
+use Rattle.px_io.proofs.Flowing.{takes_nothing, takes_both}
+use Rattle.px_feed.specs.declared.feed.Ending.TheVariants as ending
+use Rattle.px_feed.specs.declared.feed.Items.{Items}
+use Rattle.px_feed.specs.declared.feed.Taken.{Taken}
+use Rattle.px_feed.specs.declared.feed.Taken.TheVariants as taken
+use Rattle.px_feed.specs.declared.item.Item.{Item as Given}
+use Rattle.px_feed.specs.declared.status.Status.{Status}
+use Rattle.px_feed.specs.declared.status.Status.TheVariants.{Memory}
+use Rattle.px_feed.specs.Items.{Item, most_bytes}
+use Rattle.px_feed.specs.Outputs.{lines_for}
+use Rattle.px_feed.specs.Taking.{GoesFurther, HasTaken, HasEnded, TakesBy, Answers}
+use Rattle.px_feed.proofs.Fewness.{few-items}
+use Rattle.px_workload.specs.declared.change.Change.{Change}
+use Rattle.px_workload.specs.Changes.{history}
+use Rattle.xpush.specs.declared.outgoing.Outgoing.{Outgoing}
+use Rattle.xpush.specs.declared.serving.Serving.{Serving}
+use Rattle.xpush.specs.Standing.{Streams, Stands, Rests, Holds, Took, Ended}
+use Rattle.xpush.specs.Waiting.{HasSaid, IsCut}
+use Rattle.xpush.proofs.FeedEnds.{cut_ended}
+use Rattle.xpush.proofs.FeedFronts.{begins}
+use Rattle.xpush.proofs.Spoken.{said_front}
+
+-- before the first item
+pub begun : (items : Items) (changes : List Change) (outgoing : Outgoing) (first : Streams) → HasTaken items first.left [] [] → changes ≡ [] →
+    HasSaid outgoing first.held first.held [] → Stands items changes outgoing first first [] 0
+begun items changes outgoing first taken none said = record {
+  bytes = [];
+  read = takes_nothing first.left;
+  given = [];
+  taken = taken;
+  asks = [];
+  asked = tt;
+  changed = ap history (sym none);
+  said = said;
+  many = omega arith;
+  counted = omega arith;
+}
+
+-- no item waits
+pub rest_taken : (serving : Serving) (first now : Streams) (least : ℕ) → (r : Rests serving first now least) → HasTaken serving.items now.left r.bytes r.given
+rest_taken serving first now least r =
+    let P : List Item → Type 0 = λ given. HasTaken serving.items now.left r.bytes given in subst P (append-nil r.given) r.taken
+
+-- a run that stands so is cut short
+pub stands_cut : (items : Items) (changes : List Change) (outgoing : Outgoing) (first before now : Streams) (waiting : List Item) (least : ℕ) (status : Status) →
+    (s : Stands items changes outgoing first before waiting least) → IsCut status first.held now.held (lines_for [] s.asks) → Ended status first now
+stands_cut items changes outgoing first before now waiting least status s cut =
+    cut_ended status first now (lines_for [] s.asks) (begins items first.left before.left s.bytes s.given waiting s.asks s.taken s.asked s.read) cut
+
+pub stands_memory : (items : Items) (changes : List Change) (outgoing : Outgoing) (first now : Streams) (waiting : List Item) (least : ℕ) →
+    Stands items changes outgoing first now waiting least → Ended Memory first now
+stands_memory items changes outgoing first now waiting least s =
+    stands_cut items changes outgoing first now now waiting least Memory s (refl, said_front outgoing first.held now.held (lines_for [] s.asks) s.said)
+
+pub holds_memory : (item : Given) (serving : Serving) (first now : Streams) (least : ℕ) → Holds item serving first now least → Ended Memory first now
+holds_memory item serving first now least h =
+    stands_memory serving.items serving.journal.changes serving.outgoing first now (h.0 ∷ []) least h.2
+
+-- a read fault has not ended the feed before
+not_failed : (items : Items) (left : Option (List ℕ)) (bytes : List ℕ) (given : List Item) → HasTaken items left bytes given → HasEnded items ending.ReadFault → ⊥
+not_failed items left bytes given (inl further) failed = let going = further.going in absurd (cc)
+not_failed items left bytes given (inr end) failed = let ended = end.0 in absurd (cc)
+
+-- what was taken next
+pub took_next : (found : Taken) (old new : Serving) (first before now : Streams) (least : ℕ) → (r : Rests old first before least) →
+    new.journal.changes ≡ old.journal.changes → HasSaid new.outgoing first.held now.held (lines_for [] r.asks) →
+    TakesBy found new.items before.left now.left r.bytes r.given → before.faults ≤ now.faults →
+    (found ≡ taken.ReadFault → HasEnded old.items ending.ReadFault ⊎ Rose before.faults now.faults) → Took found new first now least
+took_next found old new first before now least r same said by counts failed = record {
+  bytes = r.bytes ++ by.0;
+  read = takes_both first.left before.left now.left r.bytes by.0 r.read by.1;
+  given = r.given;
+  answers = by.2;
+  asks = r.asks;
+  asked = r.asked;
+  changed = r.changed ∙ ap history (sym same);
+  said = said;
+  begun = begins old.items first.left before.left r.bytes r.given [] r.asks r.taken r.asked r.read;
+  many = r.many;
+  counted = omega (arith, r.counted, counts);
+  failed = λ e. rose (failed e);
+}
+  where
+    rose : HasEnded old.items ending.ReadFault ⊎ Rose before.faults now.faults → Rose first.faults now.faults
+    rose (inl ended) = absurd (not_failed old.items before.left r.bytes (r.given ++ []) r.taken ended)
+    rose (inr more) = rose_later first.faults before.faults now.faults r.counted more
+
+-- the same of what stood in the bytes that were read
+pub took_ready : (found : Taken) (old new : Serving) (first now : Streams) (least : ℕ) → (r : Rests old first now least) →
+    new.journal.changes ≡ old.journal.changes → new.outgoing ≡ old.outgoing → Answers found new.items now.left r.bytes r.given →
+    (found ≡ taken.ReadFault → HasEnded old.items ending.ReadFault) → Took found new first now least
+took_ready found old new first now least r same same_outgoing answers failed =
+    let P : List ℕ → Type 0 = λ bytes. Answers found new.items now.left bytes r.given in
+    let Q : Outgoing → Type 0 = λ outgoing. HasSaid outgoing first.held now.held (lines_for [] r.asks) in
+    took_next found old new first now now least r same (subst Q (sym same_outgoing) r.said)
+    ([], takes_nothing now.left, subst P (sym (append-nil r.bytes)) answers) (omega arith) (λ e. inl (failed e))
+
+-- no item stood there
+pub rest_further : (old new : Serving) (first now : Streams) (least : ℕ) → (r : Rests old first now least) → new.journal.changes ≡ old.journal.changes →
+    new.outgoing ≡ old.outgoing → GoesFurther new.items r.bytes r.given → Rests new first now least
+rest_further old new first now least r same same_outgoing further =
+    let P : List Item → Type 0 = λ given. HasTaken new.items now.left r.bytes given in
+    let Q : Outgoing → Type 0 = λ outgoing. HasSaid outgoing first.held now.held (lines_for [] r.asks) in
+    record {
+      bytes = r.bytes;
+      read = r.read;
+      given = r.given;
+      taken = subst P (sym (append-nil r.given)) (inl further);
+      asks = r.asks;
+      asked = r.asked;
+      changed = r.changed ∙ ap history (sym same);
+      said = subst Q (sym same_outgoing) r.said;
+      many = r.many;
+      counted = r.counted;
+    }
+
+-- an item was taken
+pub took_item : (item : Given) (serving : Serving) (first now : Streams) (least : ℕ) → Took (taken.Item item) serving first now least →
+    Holds item serving first now least
+took_item item serving first now least t = (
+  t.answers.0,
+  t.answers.1,
+  record {
+    bytes = t.bytes;
+    read = t.read;
+    given = t.given;
+    taken = t.answers.2;
+    asks = t.asks;
+    asked = t.asked;
+    changed = t.changed;
+    said = t.said;
+    many = t.many;
+    counted = t.counted;
+  },
+)
+
+-- fewer items at least
+pub holds_less : (item : Given) (serving : Serving) (first now : Streams) (most least : ℕ) → least ≤ most → Holds item serving first now most →
+    Holds item serving first now least
+holds_less item serving first now most least le h =
+    let s = h.2 in (
+      h.0,
+      h.1,
+      record {
+        bytes = s.bytes;
+        read = s.read;
+        given = s.given;
+        taken = s.taken;
+        asks = s.asks;
+        asked = s.asked;
+        changed = s.changed;
+        said = s.said;
+        many = omega (arith, le, s.many);
+        counted = s.counted;
+      },
+    )
+
+-- a feed has not so many items
+few : (most given : ℕ) → given + 1 ≤ most → most ≤ given → ⊥
+few most given lt le = absurd (omega arith)
+
+pub holds_few : (item : Given) (serving : Serving) (first now : Streams) → Holds item serving first now most_bytes → ⊥
+holds_few item serving first now h =
+    let s = h.2 in
+    let within = few-items serving.items now.left s.bytes (s.given ++ h.0 ∷ []) s.taken in
+    let P : ℕ → Type 0 = λ n. n ≤ most_bytes in
+    few most_bytes (length s.given) (subst P (length-append s.given (h.0 ∷ [])) within) s.many
