@@ -1,5 +1,7 @@
 //! Runs of the program over memory and over failing sources and sinks.
 
+mod feeds;
+
 use crate::plain::plain;
 use px_feed::Status;
 use px_io::{MemSink, MemSource, ReadAnswer, Sink, Source, StdSink, StdSource, WriteAnswer};
@@ -283,13 +285,14 @@ const FEED: &[u8] =
     b"+//e6[not(e1)]\n+//e3[text()>7 or .//e2]\n(r\n(e3\nAk 2\n(e6\n-9\n)e6\n)e3\n(e7\nAk 4\n(e4\n-5\n)e4\n)e7\n(e7\nAk 9\n(e7\n-7\n)e7\n)e7\n(e6\nAk 6\n(e2\n-5\n)e2\n)e6\n)r\n";
 
 /// Lists of words that are in no form.
-const NO_FORMS: [&[&str]; 17] = [
+const NO_FORMS: [&[&str]; 18] = [
     &[],
     &["feeds"],
     &["match"],
     &["match", "/a", "/b"],
     &["show"],
     &["--help"],
+    &["serial", "x"],
     &["make"],
     &["make", "--seed=1", "--filters=2"],
     &["make", "--seed=1", "--filters=2", "--documents"],
