@@ -141,7 +141,11 @@ fn any_pieces_are_answered_alike(rt: HostRuntime) -> Result<(), Fail> {
     let words = serial(alloc)?;
     for piece in [1, 2, 7, 16] {
         for row in ROWS.iter() {
-            let mut source = FailSource::new(Bytes::of(alloc, row.feed)?, piece, Words::of(Vec::new(alloc)));
+            let mut source = FailSource::new(
+                Bytes::of(alloc, row.feed)?,
+                piece,
+                Words::of(Vec::new(alloc)),
+            );
             let mut sink = MemSink::new(alloc);
             let status = plain(alloc, words.as_slice(), &mut source, &mut sink);
             assert_eq!(rt; sink.held(), row.text);
@@ -233,7 +237,11 @@ fn whole_items_are_answered_before_a_read_fault(rt: HostRuntime) -> Result<(), F
     let mut call = 0;
     for text in WHOLE_ITEMS {
         call += 1;
-        let mut source = FailSource::new(Bytes::of(alloc, ORDER)?, 16, Words::of(vec![in alloc; call]?));
+        let mut source = FailSource::new(
+            Bytes::of(alloc, ORDER)?,
+            16,
+            Words::of(vec![in alloc; call]?),
+        );
         let mut sink = MemSink::new(alloc);
         let status = plain(alloc, words.as_slice(), &mut source, &mut sink);
         assert_eq!(rt; status, Status::ReadFault, "call {call}");
@@ -285,7 +293,11 @@ fn nothing_is_written_where_the_first_write_fails(rt: HostRuntime) -> Result<(),
 fn a_match_writes_nothing_behind_a_read_fault(rt: HostRuntime) -> Result<(), Fail> {
     let alloc = rt.alloc();
     let words = strings(alloc, &["match", "/a"])?;
-    let mut source = FailSource::new(Bytes::of(alloc, b"(a\n)a\n")?, 64, Words::of(vec![in alloc; 2]?));
+    let mut source = FailSource::new(
+        Bytes::of(alloc, b"(a\n)a\n")?,
+        64,
+        Words::of(vec![in alloc; 2]?),
+    );
     let mut sink = MemSink::new(alloc);
     let status = plain(alloc, words.as_slice(), &mut source, &mut sink);
     assert_eq!(rt; status, Status::ReadFault);
