@@ -3,6 +3,7 @@
 ghost use Rattle.std.specs.Prelude.{◌≡◌, ◌<◌, ◌≤◌, ◌^◌, length, IfOk, OnOk};
 ghost use Rattle.px_text.specs.Nodes.{Root};
 ghost use Rattle.px_reader.specs.Spelling as spelling;
+ghost use Rattle.px_runner.specs.Running.{HasRun};
 
 use crate::trouble::Trouble;
 use px_afa::Program;
@@ -39,6 +40,21 @@ pub fn ids_by_machine<M: Memo>(
     requires tree { (root : Root) × (events.now ≡ spelling.events_of root) }
     ensures same { OnOk result (M.states memo.new ≡ M.states memo.old) }
 {
+    let runner = run_over(alloc, program, memo, events)?;
+    Ok(runner.finish(alloc, program, memo)?)
+}
+
+/// The machine behind the events of a document.
+pub fn run_over<M: Memo>(
+    alloc: Global,
+    program: &Program,
+    memo: &mut M,
+    events: &[Event],
+) -> Result<Runner, Trouble>
+    requires program { M.states memo.old ≡ program.now.states }
+    ensures run { IfOk result (λ runner. HasRun M.states M.stands_for memo.new runner program.now events.now) }
+    ensures same { OnOk result (M.states memo.new ≡ M.states memo.old) }
+{
     if events.len() > MOST_EVENTS {
         return Err(Trouble::Feed);
     }
@@ -46,7 +62,7 @@ pub fn ids_by_machine<M: Memo>(
     for event in events {
         runner.event(program, event, memo)?;
     }
-    Ok(runner.finish(alloc, program, memo)?)
+    Ok(runner)
 }
 
 /// The ids of the filters that hold of a document, by the plain evaluator.

@@ -1,8 +1,12 @@
 //! The filters of a trial.
 
-ghost use Rattle.std.specs.Prelude.{◌≡◌, ◌+◌, ◌<◌, ◌≤◌, length, IsTrue, IfOk};
+ghost use Rattle.std.specs.Prelude.{◌≡◌, ◌+◌, ◌<◌, ◌≤◌, ◌↔◌, ◌++◌, ◌∷◌, [], length, Err, IsTrue, IfOk, OnErr, OnOk};
 ghost use Rattle.px_afa.specs.Sound.{AreLive};
+ghost use Rattle.px_trial.specs.Room.{HasRoom};
 ghost use Rattle.px_workload.specs.Changes as changes;
+ghost use Rattle.px_workload.specs.declared.change.Change.TheVariants.{Add};
+ghost use Rattle.px_xpath.specs.declared.filter.Filter.{Filter as Parsed};
+ghost use Rattle.px_xpath.specs.Faults.{IsText};
 ghost use Rattle.px_xpath.specs.Histories as histories;
 ghost use Rattle.px_xpath.specs.Subscribed.{subscriptions};
 ghost use Rattle.px_xpath.specs.Whole.{filter as way_of};
@@ -18,8 +22,11 @@ const MOST_SIZE: u64 = 500_000;
 /// The most changes of one history.
 const MOST_CHANGES: u32 = 1_048_575;
 
-/// Adds the filter that a text writes.
-pub fn add(alloc: Global, journal: &mut Journal, text: &[u8]) -> Result<(), Trouble> {
+/// Adds the filter that a text writes, and changes nothing where that fails.
+pub fn add(alloc: Global, journal: &mut Journal, text: &[u8]) -> Result<(), Trouble>
+    ensures ok { OnOk result ((filter : Parsed) × IsText text.now (way_of filter) × (journal.new.changes ≡ journal.old.changes ++ Add 0 filter ∷ [])) }
+    ensures err { OnErr result (journal.new.changes ≡ journal.old.changes) }
+{
     match parse(alloc, text) {
         Ok(filter) => add_filter(journal, filter),
         Err(ParseFault::Filter(_)) => Err(Trouble::Filter),
@@ -27,8 +34,12 @@ pub fn add(alloc: Global, journal: &mut Journal, text: &[u8]) -> Result<(), Trou
     }
 }
 
-/// Adds a filter, where it fits.
-fn add_filter(journal: &mut Journal, filter: Filter) -> Result<(), Trouble> {
+/// Adds a filter, where it fits, and changes nothing where it does not.
+fn add_filter(journal: &mut Journal, filter: Filter) -> Result<(), Trouble>
+    ensures ok { OnOk result (journal.new.changes ≡ journal.old.changes ++ Add 0 filter ∷ []) }
+    ensures full { result ≡ Err Trouble.Full → HasRoom journal.old.changes filter → ⊥ }
+    ensures err { OnErr result (journal.new.changes ≡ journal.old.changes) }
+{
     if has_room(journal, &filter) {
         journal.reserve()?;
         journal.append(Change::Add { who: 0, filter });
@@ -37,10 +48,11 @@ fn add_filter(journal: &mut Journal, filter: Filter) -> Result<(), Trouble> {
     Err(Trouble::Full)
 }
 
-/// Whether the filter may be added.
+/// Whether the filter may be added: the changes are not too many, and the live filters with it are
+/// small enough for a program. The journal tests neither, and requires both; and this stands apart
+/// from the add, so that its proof has the two limits as one fact.
 fn has_room(journal: &Journal, filter: &Filter) -> bool
-    ensures size { IsTrue result → histories.live_size (histories.live (changes.history journal.now.changes)) + histories.size (way_of filter.now) ≤ 500_000 }
-    ensures version { IsTrue result → length journal.now.changes < 1_048_575 }
+    ensures room { IsTrue result ↔ HasRoom journal.now.changes filter.now }
     ensures legal { histories.IsLegal (changes.history journal.now.changes) }
 {
     if journal.version() >= MOST_CHANGES {
@@ -49,9 +61,10 @@ fn has_room(journal: &Journal, filter: &Filter) -> bool
     u64::from(journal.live_size()) + u64::from(size(filter)) <= MOST_SIZE
 }
 
-/// Copies of the filters, of which a program can be built.
+/// Copies of the live filters, of which a program can be built.
 pub fn filters(alloc: Global, journal: &Journal) -> Result<Live, Trouble>
     ensures live { IfOk result (λ live. AreLive (subscriptions live)) }
+    ensures same { IfOk result (λ live. subscriptions live ≡ histories.live (changes.history journal.now.changes)) }
 {
     live_filters_are_in_order();
     let _version = journal.version();

@@ -10,4 +10,4 @@ returns c =
     let laws = c.live_filters_are_in_order.ensures in
     let legal = c.version-version.ensures.legal in
     let P : List Subscription → Type 0 = λ live. AreLive live in
-    record { live = subst P (sym c.in_ok-snapshot.ensures.live) (is_live _ (laws.rising _ legal) (laws.small _ legal)) }
+    record { live = subst P (sym c.in_ok-snapshot.ensures.live) (is_live _ (laws.rising _ legal) (laws.small _ legal)); same = c.in_ok-snapshot.ensures.live }

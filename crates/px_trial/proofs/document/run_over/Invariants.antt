@@ -1,7 +1,7 @@
 -- The runner has run over the events so far.
 use Rattle.std.proofs.Common.{◌≡◌, ◌≤◌, length, take}
 use Rattle.px_runner.specs.Running.{HasRun}
-use Rattle.px_trial.proofs.document.ids_by_machine.Given as goal
+use Rattle.px_trial.proofs.document.run_over.Given as goal
 
 abbrev pub invariant-loop-event : goal.invariant-loop-event
 invariant-loop-event g l = record {
