@@ -50,7 +50,7 @@ pub fn compare<S: Source>(alloc: Global, source: &mut S) -> Result<Counts, Troub
 }
 
 /// The next item, or none at the end of the feed.
-fn next_item<S: Source>(items: &mut Items, source: &mut S) -> Result<Option<Item>, Trouble> {
+pub fn next_item<S: Source>(items: &mut Items, source: &mut S) -> Result<Option<Item>, Trouble> {
     match items.next(source) {
         Taken::Item(item) => Ok(Some(item)),
         Taken::End => Ok(None),

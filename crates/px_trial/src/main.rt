@@ -1,26 +1,44 @@
-//! px_trial: a tool for benchmarks and comparisons. It is no part of the product.
+//! px_trial: a tool for comparisons and benchmarks. It is no part of the product, and nothing stands
+//! on it.
 //!
 //! `px_trial compare` reads a feed of adds and documents from standard input, computes the ids of
 //! each document by the machine and by the plain evaluator, and prints how many documents there
-//! were, how many ids, and for how many documents the two differ. It ends with 1 where they do, and
-//! with 2 where a trial was cut short.
+//! were, how many ids, and for how many documents the two differ. It ends with 1 where they do.
+//!
+//! `px_trial read` reads a document from standard input, with no machine behind it, and prints how
+//! many events it has.
+//!
+//! `px_trial times N` builds a program of N generated filters, and prints how long that took and how
+//! long a thousand calls of each function on sets of states took.
+//!
+//! A trial that was cut short ends with 2.
 #![tactic(auto)]
 
 mod compare;
 mod document;
+mod operands;
+mod read;
+mod timing;
 mod trouble;
 mod workload;
 
 use compare::{Counts, compare};
+use px_feed::id_of;
 use px_io::{Source, StdSource};
+use read::count_events;
 use std::alloc::Global;
 use std::env;
 use std::env::Env;
 use std::io::{ErrorKind, Stdin};
 use std::process::ExitCode;
+use std::time::Clock;
+use timing::time_all;
 use trouble::Trouble;
 
-const USAGE: &str = "usage: px_trial compare";
+const USAGE: &str = "usage: px_trial compare | read | times N";
+
+/// The most filters of which times are printed.
+const MOST_FILTERS: u32 = 50_000;
 
 /// The words behind the program's name.
 fn words_of(rt: &(impl Env + Alloc<A = Global>)) -> Result<Vec<String>, Trouble> {
@@ -47,6 +65,35 @@ fn print_comparison<S: Source>(
     }
 }
 
+/// Prints how many events the document has: the status.
+fn print_events<S: Source>(
+    rt: &(impl Print + Alloc<A = Global>),
+    source: &mut S,
+) -> Result<u8, Trouble> {
+    let events = count_events(rt.alloc(), source)?;
+    match println!(rt; "events={events}") {
+        Ok(()) => Ok(0),
+        Err(_) => Err(Trouble::Write),
+    }
+}
+
+/// Prints the times for as many filters as a word says: the status.
+fn print_times(
+    rt: &(impl Clock + Print + Alloc<A = Global>),
+    word: Option<&String>,
+) -> Result<u8, Trouble> {
+    let Some(word) = word else {
+        return Err(Trouble::Usage);
+    };
+    match id_of(word.as_str().as_bytes()) {
+        Some(count) if count <= MOST_FILTERS => {
+            time_all(rt, rt.alloc(), count)?;
+            Ok(0)
+        }
+        Some(_) | None => Err(Trouble::Usage),
+    }
+}
+
 /// Prints how the program is called.
 fn print_usage(rt: &impl Print) -> Result<u8, Trouble> {
     match println!(rt; "{USAGE}") {
@@ -57,13 +104,15 @@ fn print_usage(rt: &impl Print) -> Result<u8, Trouble> {
 
 /// Does what the words ask for: the status.
 fn run<S: Source>(
-    rt: &(impl Env + Print + Alloc<A = Global>),
+    rt: &(impl Clock + Env + Print + Alloc<A = Global>),
     source: &mut S,
 ) -> Result<u8, Trouble> {
     let words = words_of(rt)?;
     match words.first() {
         None => print_usage(rt),
         Some(word) if word.as_str() == "compare" => print_comparison(rt, source),
+        Some(word) if word.as_str() == "read" => print_events(rt, source),
+        Some(word) if word.as_str() == "times" => print_times(rt, words.get(1)),
         Some(_) => Err(Trouble::Usage),
     }
 }

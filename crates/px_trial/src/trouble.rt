@@ -8,7 +8,7 @@ use std::alloc::AllocError;
 pub enum Trouble {
     /// The words are in none of the forms.
     Usage,
-    /// The feed is at fault, or has something besides adds and documents.
+    /// The feed or the document is at fault, or the feed has something besides adds and documents.
     Feed,
     /// A filter is at fault.
     Filter,
@@ -18,6 +18,8 @@ pub enum Trouble {
     Read,
     /// Standard output met a fault.
     Write,
+    /// The clock gave no time.
+    Clock,
     /// Memory was refused.
     Memory,
 }
@@ -26,12 +28,13 @@ impl Trouble {
     /// What standard error is told.
     pub fn message(self) -> &'static str {
         match self {
-            Trouble::Usage => "usage: px_trial compare",
-            Trouble::Feed => "the feed is at fault, or has more than adds and documents",
+            Trouble::Usage => "usage: px_trial compare | read | times N, where N is at most 50000",
+            Trouble::Feed => "the input is at fault, or has more than adds and documents",
             Trouble::Filter => "a filter is at fault",
             Trouble::Full => "the filters are too many or too large",
             Trouble::Read => "read fault",
             Trouble::Write => "write fault",
+            Trouble::Clock => "the clock gives no time",
             Trouble::Memory => "out of memory",
         }
     }

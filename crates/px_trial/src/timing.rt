@@ -1,0 +1,181 @@
+//! How long a program takes to build, and how long each function on sets of states takes.
+
+ghost use Rattle.std.specs.Prelude.{◌≡◌};
+ghost use Rattle.px_prune.specs.Needing.{needs_of};
+
+use crate::compare::next_item;
+use crate::operands::Operands;
+use crate::trouble::Trouble;
+use crate::workload::{add as add_filter, filters};
+use px_afa::Program;
+use px_feed::{Item, Items, generate};
+use px_io::MemSource;
+use px_prune::{Needs, push};
+use px_step::{accept, add, mask, pop, value_number, value_text};
+use px_workload::Journal;
+use std::alloc::{AllocError, Global};
+use std::time::{Clock, Instant};
+
+/// How often each function is called.
+const CALLS: u32 = 1_000;
+
+/// The seed of the filters.
+const SEED: u32 = 7;
+
+/// A function on sets, at the operands of its kind.
+#[derive(Clone, Copy, Drop)]
+enum Function {
+    ValueText,
+    ValueNumber,
+    Add,
+    Pop,
+    Mask,
+    Push,
+    Accept,
+}
+
+/// The functions with the names that they are printed by.
+const FUNCTIONS: [(&str, Function); 7] = [
+    ("value_text", Function::ValueText),
+    ("value_number", Function::ValueNumber),
+    ("add", Function::Add),
+    ("pop", Function::Pop),
+    ("mask", Function::Mask),
+    ("push", Function::Push),
+    ("accept", Function::Accept),
+];
+
+/// Builds a program of so many generated filters, calls each function on its sets, and prints a
+/// line for the build and for each function: its name, how many calls, the nanoseconds that they
+/// took together, and how many states or members one answer has.
+pub fn time_all<R: Clock + Print>(rt: &R, alloc: Global, count: u32) -> Result<(), Trouble> {
+    let journal = generated(alloc, count)?;
+    let program = time_build(rt, alloc, &journal)?;
+    let needs = Needs::build(alloc, &program)?;
+    time_functions(rt, alloc, &program, &needs)
+}
+
+/// A journal with so many generated filters.
+fn generated(alloc: Global, count: u32) -> Result<Journal, Trouble> {
+    let mut source = MemSource::new(generate(alloc, SEED, count, 0)?);
+    let mut items = Items::new(alloc)?;
+    let mut journal = Journal::new(alloc);
+    for _ in 0..count {
+        match next_item(&mut items, &mut source)? {
+            Some(Item::Add { text }) => add_filter(alloc, &mut journal, text.as_slice())?,
+            Some(_) | None => return Err(Trouble::Feed),
+        }
+    }
+    Ok(journal)
+}
+
+/// Times one build, which is the answer.
+fn time_build<R: Clock + Print>(
+    rt: &R,
+    alloc: Global,
+    journal: &Journal,
+) -> Result<Program, Trouble> {
+    let live = filters(alloc, journal)?;
+    let start = now(rt)?;
+    let program = Program::build(alloc, live.as_slice())?;
+    let nanos = nanos_since(rt, &start)?;
+    print_time(rt, "build", 1, nanos, program.states() as usize)?;
+    Ok(program)
+}
+
+/// Times all functions.
+fn time_functions<R: Clock + Print>(
+    rt: &R,
+    alloc: Global,
+    program: &Program,
+    needs: &Needs,
+) -> Result<(), Trouble>
+    requires needs { needs.now ≡ needs_of program.now.states }
+{
+    let operands = Operands::of(alloc, program)?;
+    for (name, function) in FUNCTIONS {
+        let start = now(rt)?;
+        let members = call_often(alloc, program, needs, &operands, function)?;
+        let nanos = nanos_since(rt, &start)?;
+        print_time(rt, name, CALLS, nanos, members)?;
+    }
+    Ok(())
+}
+
+/// Calls a function as often as all are called: how many members its last answer has.
+fn call_often(
+    alloc: Global,
+    program: &Program,
+    needs: &Needs,
+    operands: &Operands,
+    function: Function,
+) -> Result<usize, AllocError>
+    requires needs { needs.now ≡ needs_of program.now.states }
+{
+    let mut members = 0;
+    for _ in 0..CALLS {
+        members = call(alloc, program, needs, operands, function)?;
+    }
+    Ok(members)
+}
+
+/// Calls a function once: how many members its answer has.
+fn call(
+    alloc: Global,
+    program: &Program,
+    needs: &Needs,
+    operands: &Operands,
+    function: Function,
+) -> Result<usize, AllocError>
+    requires needs { needs.now ≡ needs_of program.now.states }
+{
+    let Operands {
+        class,
+        label,
+        texts,
+        numbers,
+        inner,
+        parent,
+        firsts,
+    } = operands;
+    let set = match function {
+        Function::ValueText => value_text(alloc, program, 0)?,
+        Function::ValueNumber => value_number(alloc, program, *class)?,
+        Function::Add => add(alloc, texts, numbers)?,
+        Function::Pop => pop(alloc, program, inner, *label)?,
+        Function::Mask => mask(alloc, parent, firsts)?,
+        Function::Push => push(alloc, program, needs, firsts, *label)?,
+        Function::Accept => return Ok(accept(alloc, program, firsts)?.as_slice().len()),
+    };
+    Ok(set.as_slice().len())
+}
+
+/// The time now.
+fn now(rt: &impl Clock) -> Result<Instant, Trouble> {
+    match Instant::now(rt) {
+        Ok(instant) => Ok(instant),
+        Err(_) => Err(Trouble::Clock),
+    }
+}
+
+/// The nanoseconds from a time until now.
+fn nanos_since(rt: &impl Clock, start: &Instant) -> Result<u128, Trouble> {
+    match start.elapsed(rt) {
+        Ok(elapsed) => Ok(elapsed.as_nanos()),
+        Err(_) => Err(Trouble::Clock),
+    }
+}
+
+/// Prints the line of what was called so often.
+fn print_time(
+    rt: &impl Print,
+    name: &str,
+    calls: u32,
+    nanos: u128,
+    members: usize,
+) -> Result<(), Trouble> {
+    match println!(rt; "{name} {calls} {nanos} {members}") {
+        Ok(()) => Ok(()),
+        Err(_) => Err(Trouble::Write),
+    }
+}
