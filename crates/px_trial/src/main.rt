@@ -11,13 +11,16 @@
 //! `px_trial times N` builds a program of N generated filters, and prints how long that took and how
 //! long a thousand calls of each function on sets of states took.
 //!
-//! A trial that was cut short ends with 2.
+//! A trial that was cut short ends with 2. The tests follow the machine step by step along a run
+//! that was worked out by hand, and over small workloads whose ids are known.
 #![tactic(auto)]
 
 mod compare;
 mod document;
 mod operands;
 mod read;
+#[cfg(test)]
+mod tests;
 mod timing;
 mod trouble;
 mod workload;
