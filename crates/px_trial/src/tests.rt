@@ -20,6 +20,8 @@ use px_xpath::{Axis, Relation, Test, Value};
 use std::alloc::{AllocError, Global};
 use std::test::Fail;
 
+mod steps;
+
 /// The filter whose run is told step by step.
 const WORKED: &[u8] = b"//a[b/text()=1 and .//a[@c>2]]";
 
