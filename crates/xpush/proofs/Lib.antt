@@ -5,6 +5,7 @@ pub mod FeedEnds
 pub mod FeedFronts
 pub mod FeedLines
 pub mod FeedPrograms
+pub mod FeedRefusals
 pub mod FeedTaking
 pub mod Fronts
 pub mod Lines

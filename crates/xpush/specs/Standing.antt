@@ -127,3 +127,7 @@ pub record IsCompiled (program : Automata) (changes : List Change) : Type 0 wher
   pub filters : List Numbered
   pub program_is : program ≡ automata (subscriptions filters)
   pub filters_are : subscriptions filters ≡ live (history changes)
+
+-- Where there are as many changes as before, the history is the same: only a change that is accepted makes another.
+abbrev pub Keeps : (before after : List Change) → Type 0
+Keeps before after = length after ≡ length before → history after ≡ history before

@@ -1,6 +1,6 @@
 //! The command `serial`: what a feed is answered, on one thread.
 
-ghost use Rattle.std.specs.Prelude.{◌≡◌, ◌≤◌, Err, IsTrue, IfOk};
+ghost use Rattle.std.specs.Prelude.{◌≡◌, ◌≤◌, Err, IsTrue, IfOk, IsOk, OnOk};
 ghost use Rattle.px_io.specs.Faults.{Rose};
 ghost use Rattle.px_text.specs.Nodes.{Root};
 ghost use Rattle.px_feed.specs.declared.item.Item.TheVariants as items;
@@ -8,7 +8,7 @@ ghost use Rattle.px_feed.specs.Items.{Showing};
 ghost use Rattle.xpush.specs.Answers.{Served, ServedWhole, WritesFront, is_finished, is_cut_short};
 ghost use Rattle.xpush.specs.Forms.{Serves};
 ghost use Rattle.xpush.specs.Replying.{Answered};
-ghost use Rattle.xpush.specs.Standing.{Streams, streams, Rests, Holds, Ended, TakesNext, TakesUp, ServesItem, Replies, SaysLine, IsCompiled};
+ghost use Rattle.xpush.specs.Standing.{Streams, streams, Rests, Holds, Ended, TakesNext, TakesUp, ServesItem, Replies, SaysLine, IsCompiled, Keeps};
 ghost use Rattle.xpush.specs.Verdicts.{IsOf};
 
 use crate::changes::{add, remove, replace};
@@ -131,6 +131,7 @@ impl Serving {
     ) -> Result<Item, Status>
         ensures serves { ServesItem (items.Add text) result self.old self.new
             (streams (S.left source.old) (K.held sink.old) (S.faults source.old)) (streams (S.left source.new) (K.held sink.new) (S.faults source.new)) }
+        ensures kept { OnOk result (Keeps self.old.journal.changes self.new.journal.changes) }
         ensures write_fault { result ≡ Err Status.WriteFault → Rose (K.faults sink.old) (K.faults sink.new) }
         ensures source_counts { S.faults source.old ≤ S.faults source.new }
         ensures sink_counts { K.faults sink.old ≤ K.faults sink.new }
@@ -148,6 +149,7 @@ impl Serving {
     ) -> Result<Item, Status>
         ensures serves { ServesItem (items.Remove text) result self.old self.new
             (streams (S.left source.old) (K.held sink.old) (S.faults source.old)) (streams (S.left source.new) (K.held sink.new) (S.faults source.new)) }
+        ensures kept { OnOk result (Keeps self.old.journal.changes self.new.journal.changes) }
         ensures write_fault { result ≡ Err Status.WriteFault → Rose (K.faults sink.old) (K.faults sink.new) }
         ensures source_counts { S.faults source.old ≤ S.faults source.new }
         ensures sink_counts { K.faults sink.old ≤ K.faults sink.new }
@@ -167,6 +169,7 @@ impl Serving {
     ) -> Result<Item, Status>
         ensures serves { ServesItem (items.Replace name text) result self.old self.new
             (streams (S.left source.old) (K.held sink.old) (S.faults source.old)) (streams (S.left source.new) (K.held sink.new) (S.faults source.new)) }
+        ensures kept { OnOk result (Keeps self.old.journal.changes self.new.journal.changes) }
         ensures write_fault { result ≡ Err Status.WriteFault → Rose (K.faults sink.old) (K.faults sink.new) }
         ensures source_counts { S.faults source.old ≤ S.faults source.new }
         ensures sink_counts { K.faults sink.old ≤ K.faults sink.new }
@@ -180,7 +183,8 @@ impl Serving {
         self.reply(line, source, sink)
     }
 
-    /// Filters a document and those that follow it with one machine, up to the next change.
+    /// Filters a document and those that follow it with one machine, up to the next change that is
+    /// accepted.
     fn filter<S: Source, K: Sink>(
         &mut self,
         doc: Doc,
@@ -202,8 +206,8 @@ impl Serving {
         self.filter_by(&program, &mut memo, doc, source, sink)
     }
 
-    /// Filters a document and those that follow it, so many at most, with the program of the live
-    /// filters.
+    /// Answers a document and the items that follow it, so many at most, with the program of the
+    /// live filters, up to the next change that is accepted. A refused one leaves the machine warm.
     fn filter_by<S: Source, K: Sink, M: Memo>(
         &mut self,
         program: &Program,
@@ -220,15 +224,42 @@ impl Serving {
         ensures source_counts { S.faults source.old ≤ S.faults source.new }
         ensures sink_counts { K.faults sink.old ≤ K.faults sink.new }
     {
-        let mut doc = doc;
+        let version = self.journal.version();
+        let mut item = Item::Document { doc };
         for _ in 0..MOST_ITEMS {
-            match self.filter_one(program, memo, &doc, source, sink) {
-                Ok(Item::Document { doc: next }) => doc = next,
-                Ok(change) => return Ok(change),
-                Err(status) => return Err(status),
+            match self.serve_by(program, memo, item, source, sink) {
+                Ok(next) if self.journal.version() == version => item = next,
+                other => return other,
             }
         }
-        Ok(Item::Document { doc })
+        Ok(item)
+    }
+
+    /// Answers an item, a document with the program of the live filters, and takes the next one.
+    fn serve_by<S: Source, K: Sink, M: Memo>(
+        &mut self,
+        program: &Program,
+        memo: &mut M,
+        item: Item,
+        source: &mut S,
+        sink: &mut K,
+    ) -> Result<Item, Status>
+        requires program { M.states memo.old ≡ program.now.states }
+        requires compiled { IsCompiled program.now self.old.journal.changes }
+        ensures serves { ServesItem item result self.old self.new
+            (streams (S.left source.old) (K.held sink.old) (S.faults source.old)) (streams (S.left source.new) (K.held sink.new) (S.faults source.new)) }
+        ensures states { M.states memo.new ≡ M.states memo.old }
+        ensures kept { OnOk result (Keeps self.old.journal.changes self.new.journal.changes) }
+        ensures write_fault { result ≡ Err Status.WriteFault → Rose (K.faults sink.old) (K.faults sink.new) }
+        ensures source_counts { S.faults source.old ≤ S.faults source.new }
+        ensures sink_counts { K.faults sink.old ≤ K.faults sink.new }
+    {
+        match item {
+            Item::Add { text } => self.add(text, source, sink),
+            Item::Remove { text } => self.remove(text, source, sink),
+            Item::Replace { id, text } => self.replace(id, text, source, sink),
+            Item::Document { doc } => self.filter_one(program, memo, &doc, source, sink),
+        }
     }
 
     /// Filters one document, and takes the next item.
@@ -294,6 +325,7 @@ impl Serving {
     ) -> Result<Item, Status>
         ensures replies { Replies line result self.old self.new
             (streams (S.left source.old) (K.held sink.old) (S.faults source.old)) (streams (S.left source.new) (K.held sink.new) (S.faults source.new)) }
+        ensures spoken { OnOk result (IsOk line) }
         ensures journal { self.new.journal ≡ self.old.journal }
         ensures write_fault { result ≡ Err Status.WriteFault → Rose (K.faults sink.old) (K.faults sink.new) }
         ensures source_counts { S.faults source.old ≤ S.faults source.new }
@@ -312,6 +344,7 @@ impl Serving {
         sink: &mut K,
     ) -> Result<(), Status>
         ensures says { SaysLine line result self.old self.new (K.held sink.old) (K.held sink.new) }
+        ensures spoken { OnOk result (IsOk line) }
         ensures journal { self.new.journal ≡ self.old.journal }
         ensures write_fault { result ≡ Err Status.WriteFault → Rose (K.faults sink.old) (K.faults sink.new) }
         ensures sink_counts { K.faults sink.old ≤ K.faults sink.new }
