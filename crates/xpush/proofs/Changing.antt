@@ -1,11 +1,11 @@
 -- What changes are replied, and when they may come.
-use Rattle.std.proofs.Common.{◌≡◌, ◌≢◌, ℕ, ◌+◌, ◌-◌, ◌<◌, ◌≤◌, Bool, true, false, List, [], ◌∷◌, ◌++◌, length, length-append, find, Option, Some, None, Ok, Err, Result, IsSome, IfOk, IfSome, eqb, refl, ap, sym, ◌∙◌, subst, arith}
+use Rattle.std.proofs.Common.{◌≡◌, ℕ, ◌+◌, ◌-◌, ◌<◌, Bool, true, false, List, [], ◌∷◌, ◌++◌, length, length-append, find, Option, Some, None, Ok, Err, Result, IsSome, IfOk, IfSome, eqb, refl, ap, sym, ◌∙◌, subst, arith}
 use Rattle.std.proofs.lemmas.Bool.{eqb-true, ltb-false}
 use Rattle.std.proofs.lemmas.List.{length-map, map-append}
 use Rattle.px_feed.specs.declared.line.OutLine.{OutLine}
-use Rattle.px_feed.specs.declared.line.OutLine.TheVariants.{Dropped, Replaced, NoFilter}
-use Rattle.px_feed.specs.Items.{Item, Adding, Removing, Replacing}
-use Rattle.px_feed.specs.Outputs.{Ask, AsksAdd, AsksDrop, AsksReplace, id_of, reply_to_drop, reply_to_replace, is_full, is_too_large, next_version}
+use Rattle.px_feed.specs.declared.line.OutLine.TheVariants.{Dropped, Replaced}
+use Rattle.px_feed.specs.Items.{Adding, Removing, Replacing}
+use Rattle.px_feed.specs.Outputs.{AsksAdd, AsksDrop, AsksReplace, id_of, reply_to_drop, reply_to_replace, is_full, is_too_large, next_version}
 use Rattle.px_workload.proofs.Legal.{add-is-legal, drop-is-legal, replace-is-legal}
 use Rattle.px_workload.specs.declared.change.Change.{Change}
 use Rattle.px_workload.specs.declared.change.Change.TheVariants.{Add, Drop, Replace}

@@ -1,14 +1,13 @@
 -- A document that is known to be one.
-use Rattle.std.proofs.Common.{◌≡◌, ℕ, ◌≤◌, List, [], ◌∷◌, ◌++◌, map, filter, length, refl, ap, sym, ◌∙◌, subst, arith}
+use Rattle.std.proofs.Common.{◌≡◌, ℕ, ◌≤◌, List, length, refl, ap, sym, ◌∙◌, arith}
 use Rattle.std.proofs.Math.Logic.{∥∥₁_elim}
-use Rattle.std.proofs.lemmas.List.{map-append}
 use Rattle.px_text.specs.Nodes.{Root}
 use Rattle.px_reader.specs.declared.event.Event.{Event}
 use Rattle.px_reader.specs.declared.fault.ReaderFault.{ReaderFault}
 use Rattle.px_reader.specs.declared.fault.ReaderFault.TheVariants as fault
 use Rattle.px_reader.specs.Lines.{lines_of}
 use Rattle.px_reader.specs.Reading.{EndsTree, GivesOn, IsLastFault}
-use Rattle.px_reader.specs.Verdicts.{Verdict, HasVerdict, IsTree, IsFaulty, SpellsTree}
+use Rattle.px_reader.specs.Verdicts.{HasVerdict, IsTree, IsFaulty, SpellsTree}
 use Rattle.px_reader.proofs.Verdicts.{judges_one}
 use Rattle.xpush.specs.Verdicts.{AreEvents}
 

@@ -1,13 +1,13 @@
 -- A filter that a text writes is small enough for a program.
-use Rattle.std.proofs.Common.{◌≡◌, ℕ, zero, suc, ◌+◌, ◌*◌, ◌≤◌, Bool, true, false, List, [], ◌∷◌, length, if◌then◌else◌, sym, ap, ◌∙◌, arith}
+use Rattle.std.proofs.Common.{◌≡◌, ℕ, zero, suc, ◌+◌, ◌*◌, ◌≤◌, Bool, true, false, List, [], ◌∷◌, length, if◌then◌else◌, arith}
 use Rattle.std.proofs.lemmas.List.{length-map}
 use Rattle.px_text.specs.Numbers.{past, is_empty}
 use Rattle.px_text.specs.Names.{is_white}
-use Rattle.px_xpath.specs.Filters.{Way, Condition, Conditions}
+use Rattle.px_xpath.specs.Filters.{Way}
 use Rattle.px_xpath.specs.Faults.{IsText, words}
 use Rattle.px_xpath.specs.Grammar.{Stands, attribute, text, last_element, element, no_pred, pred, one_and, ors, last_or, more_ors, one_unary, ands, last_and, more_ands, negated, bracketed, selects, compares, plain, dotted, literal, number, negative, Phrase, Steps, Preds, Or, Ors, And, Ands, Unary, Relative, Operand, Writes}
 use Rattle.px_xpath.specs.Histories.{size, way_size, condition_size, conditions_size, joint, count_of, parts_behind}
-use Rattle.px_xpath.specs.Tokens.{Token, Placed, tokens_from, tokens, token_at, ends_operand}
+use Rattle.px_xpath.specs.Tokens.{Token, Placed, tokens_from, tokens}
 
 joint-few : (parts : ℕ) → joint parts ≤ 1
 joint-few zero = omega arith

@@ -1,19 +1,15 @@
 -- A runner that takes events, and what it says of them.
-use Rattle.std.proofs.Common.{◌≡◌, ℕ, ◌+◌, ◌<◌, ◌≤◌, ◌^◌, List, [], ◌∷◌, ◌++◌, length, take, get_or, Result, Ok, Err, IfOk, OnOk, sym, ap, ◌∙◌, subst, arith, length-append, append_assoc}
+use Rattle.std.proofs.Common.{◌≡◌, ℕ, ◌+◌, ◌<◌, ◌≤◌, ◌^◌, List, [], ◌∷◌, ◌++◌, length, take, get_or, Result, Ok, Err, IfOk, sym, ap, ◌∙◌, subst, arith, length-append, append_assoc}
 use Rattle.std.proofs.lemmas.List.{take_more, length-take-le}
 use Rattle.px_text.specs.Nodes.{Root}
 use Rattle.px_reader.specs.Documents.{content}
 use Rattle.px_reader.specs.Spelling.{events_of}
-use Rattle.px_reader.specs.Verdicts.{HasVerdict, IsTree}
 use Rattle.px_reader.specs.declared.doc.Doc.{Doc}
 use Rattle.px_reader.specs.declared.event.Event.{Event}
 use Rattle.px_xpath.specs.declared.numbered.Numbered.{Numbered}
 use Rattle.px_xpath.specs.Subscribed.{subscriptions}
 use Rattle.px_afa.specs.declared.state.State.{State}
-use Rattle.px_afa.specs.Accepting.{HaveSteps}
 use Rattle.px_afa.specs.Building.{Automata, automata}
-use Rattle.px_afa.specs.Contents.{root_content}
-use Rattle.px_afa.specs.Machine.{machine_of}
 use Rattle.px_afa.specs.Sound.{AreProper}
 use Rattle.px_afa.proofs.Soundness.{have-steps}
 use Rattle.px_runner.specs.declared.held.Held.{Held}

@@ -1,5 +1,5 @@
 -- Lines on their way to the sink.
-use Rattle.std.specs.Prelude.{◌≡◌, ◌++◌, ◌∷◌, [], ℕ, List, Option, Result, Ok, Err, IsTrue, OnOk, IfErr}
+use Rattle.std.specs.Prelude.{◌≡◌, ◌++◌, ℕ, List, Option, Result, IsTrue, OnOk, IfErr}
 use Rattle.std.specs.List.{list_any}
 use Rattle.px_io.specs.Flows.{AddsTo}
 use Rattle.px_feed.specs.declared.line.OutLine.{OutLine}

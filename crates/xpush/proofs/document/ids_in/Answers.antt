@@ -1,5 +1,5 @@
 -- The pieces that were read are the document.
-use Rattle.std.proofs.Common.{List, [], ◌++◌, ap, sym, subst, Ok, arith}
+use Rattle.std.proofs.Common.{List, ◌++◌, ap, subst, Ok, arith}
 use Rattle.px_reader.specs.declared.event.Event.{Event}
 use Rattle.px_runner.specs.Running.{HasRun}
 use Rattle.xpush.proofs.Reading.{read_all, piece_few}

@@ -1,5 +1,5 @@
 -- The line says what the ids and the document's verdict say.
-use Rattle.std.proofs.Common.{ap, Err, ◌∙◌}
+use Rattle.std.proofs.Common.{ap, Err}
 use Rattle.xpush.proofs.Lines.{answer_line, stopped_line}
 use Rattle.xpush.proofs.matching.line_under.Goals as goal
 
