@@ -193,27 +193,6 @@ fn live_filters_have_a_size_together(rt: HostRuntime) -> Result<(), Fail> {
     Ok(())
 }
 
-/// So many pairs of a filter and a drop of the id that it gets, from the first on.
-fn pairs(alloc: Global, count: u32) -> Result<Bytes, AllocError> {
-    let mut feed = Vec::new(alloc);
-    for pair in 0..count {
-        let lines = format!(in alloc; "+/a\n~{}\n", u64::from(pair) * 2 + 1)?;
-        feed.extend_from_slice(lines.as_bytes())?;
-    }
-    Ok(Bytes::from_vec(feed))
-}
-
-#[test]
-fn the_last_version_is_the_last_change(rt: HostRuntime) -> Result<(), Fail> {
-    let (sink, status) = answered(rt.alloc(), pairs(rt.alloc(), 524_288)?)?;
-    let held = sink.held();
-    assert_eq!(rt; status, Status::Refused);
-    let lines = held.iter().filter(|byte| **byte == b'\n').count();
-    assert_eq!(rt; lines, 1_048_576);
-    assert!(rt; held.ends_with(b"\n~1048573 1048574\n+1048575\n! drop no-versions\n"));
-    Ok(())
-}
-
 /// What is written of the order, read in pieces of 16 bytes, where the calls from the first to the
 /// last fail.
 const WHOLE_ITEMS: [&[u8]; 11] = [
@@ -234,9 +213,7 @@ const WHOLE_ITEMS: [&[u8]; 11] = [
 fn whole_items_are_answered_before_a_read_fault(rt: HostRuntime) -> Result<(), Fail> {
     let alloc = rt.alloc();
     let words = serial(alloc)?;
-    let mut call = 0;
-    for text in WHOLE_ITEMS {
-        call += 1;
+    for (call, text) in (1..12).zip(WHOLE_ITEMS) {
         let mut source = FailSource::new(
             Bytes::of(alloc, ORDER)?,
             16,
