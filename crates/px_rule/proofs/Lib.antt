@@ -22,3 +22,6 @@ pub mod Seats
 pub mod Lasting
 pub mod Sounds
 pub mod Apart
+pub mod Joins
+pub mod Folding
+pub mod Since

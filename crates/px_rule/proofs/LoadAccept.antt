@@ -12,7 +12,7 @@ use Rattle.px_rule.specs.Histories.{Histories}
 use Rattle.px_rule.specs.Banks.{Banks}
 use Rattle.px_rule.specs.Places.{Places}
 use Rattle.px_rule.specs.Rule.{Alike, past_of, stay_of, touch_of, Rule}
-use Rattle.px_rule.specs.Steps.{loaded, accepted, Loads, Accepts}
+use Rattle.px_rule.specs.Steps.{Told, loaded, accepted, Loads, Accepts}
 use Rattle.px_rule.specs.declared.shape.Shape.{Shape}
 use Rattle.px_rule.specs.declared.view.View.{View}
 use Rattle.px_rule.specs.declared.view.Stand.{Stand}
@@ -55,6 +55,20 @@ module _ {E : Type 0} (who : E → ℕ) (legal : List E → Type 0) (right : Lis
       where
         same_seat : {v : View E} {n : ℕ} → Alike v → Alike (record v { past = loaded v.past n })
         same_seat a = record { walks = a.walks; keeps = a.keeps; kept = a.kept }
+
+    -- A load that leaves the view tells the same of it
+    pub tells : (slots id : ℕ) (me : M) → Allows Holds slots id me 0 (λ n. n) (λ n after. (after.0 ≡ me.0) × Told who legal me.0.past n × (after.1 ≡ me.1))
+    tells slots id me s h _ at _ =
+        let v = me.0 in
+        let n : ℕ = slice_index s.words 0 in
+        let words : slice_set s.words 0 n ≡ s.words = set-get_or s.words 0 0 in
+        let views : set s.views id v ≡ s.views = set_again s.views id v at in (
+          v,
+          keeps,
+          tt,
+          subst (λ (x : List ℕ × List (View E)). Holds (record { words = x.0; homes = s.homes; views = x.1 })) (λ i. (sym words i, sym views i)) h,
+          (refl, past_steps.tells who legal h.log h.desk h.made h.seat h.holder h.mine n (map past_of s.views) h.past id v.past (at_past who legal right z s h id v at), refl),
+        )
 
     -- The entry of the desk's permit is accepted
     pub accepts : (slots id : ℕ) (me : M) (e : E) → me.0.past.kind ≡ Desk → me.0.past.permit ≡ Some e → legal (me.0.past.seen ++ e ∷ [])

@@ -6,11 +6,7 @@ use Rattle.px_text.specs.declared.op.Op.{Op}
 use Rattle.px_text.specs.Operands.{Operand, first_is_set, second_is_set}
 use Rattle.px_rule.specs.Words.{node_word, key_of, Small}
 use Rattle.px_text.specs.Sets.{Above}
-use Rattle.px_rule.specs.RightBanks.{OneNumber, OneSet, SetAt, Means, as_index, as_set, IsStep, OnPath, RightBank}
-
--- what changed was 0
-abbrev pub Grown : (ℕ → ℕ) → (ℕ → ℕ) → Type 0
-Grown mem mem' = (p : ℕ) → mem p ≢ 0 → mem' p ≡ mem p
+use Rattle.px_rule.specs.RightBanks.{Grown, OneNumber, OneSet, SetAt, Means, as_index, as_set, IsStep, OnPath, RightBank}
 
 node_some : (w e t : ℕ) → w ≡ node_word e t → w ≢ 0
 node_some w e t h z = omega arith

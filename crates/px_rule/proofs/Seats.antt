@@ -80,7 +80,7 @@ module _ {E : Type 0} where
     seen = λ k n i. let l = s.seen k n (sym place ∙ i) in omega arith;
   }
 
-  longer_is : (xs ys : List E) → length xs ≤ length (longer xs ys)
+  pub longer_is : (xs ys : List E) → length xs ≤ length (longer xs ys)
   longer_is xs ys = elim (leb (length xs) (length ys)) as (λ t. leb (length xs) (length ys) ≡ t → length xs ≤ length (cond t ys xs)) [ true ↦ (λ e. leb-true (length xs) (length ys) e) | false ↦ (λ _. omega arith) ] refl
 
   pub joined_seat : (z : Shape) (bank : ℕ) (v u : View E) → IsSeat z bank v → IsSeat z bank (joined v u)

@@ -1,5 +1,5 @@
 -- Split and Join keep the rule.
-use Rattle.std.proofs.Common.{◌⊎◌, ⊎_elim, Option, ◌≡◌, ◌≢◌, ℕ, ◌+◌, ◌<◌, ◌≤◌, Bool, true, false, cond, List, [], ◌∷◌, ◌++◌, map, length, set, refl, sym, ap, ◌∙◌, subst}
+use Rattle.std.proofs.Common.{◌⊎◌, ⊎_elim, Option, ◌≡◌, ◌≢◌, ℕ, ◌+◌, ◌<◌, Bool, true, false, cond, List, [], ◌∷◌, ◌++◌, map, length, set, refl, sym, ap, ◌∙◌, subst}
 use Rattle.std.specs.Prelude.{slice_index, slice_set, Some, None}
 use Rattle.std.proofs.lemmas.List.{map-set}
 use mathlib.Core.Option.{some}
@@ -12,7 +12,7 @@ use Rattle.px_rule.specs.declared.view.Kind.{Kind}
 use Rattle.px_rule.specs.declared.view.Kind.TheVariants.{Desk, Pass, DeskNote, PassNote, Spent}
 use Rattle.px_text.specs.Operands.{Operand}
 use Rattle.px_rule.specs.Words.{nodes_of, steps_of, bank_word, place_word, path_of, long_of}
-use Rattle.px_rule.specs.Histories.{Begins, Histories, named}
+use Rattle.px_rule.specs.Histories.{Histories, named}
 use Rattle.px_rule.specs.Banks.{Banks}
 use Rattle.px_rule.specs.Places.{Places}
 use Rattle.px_rule.specs.Rule.{is_pass, is_desk, Alike, past_of, stay_of, touch_of, Rule}
@@ -156,11 +156,3 @@ module _ {E : Type 0} (who : E → ℕ) (legal : List E → Type 0) (right : Lis
       (λ (x : (is_desk v.past.kind ≡ true) × (is_pass_note u.past.kind ≡ true) × ((u.past.permit ≡ None) ⊎ (v.past.permit ≡ None))).
       subst (λ (t : Bool). Joins Holds id v other u (cond t (whole_heard v u) (whole_met v u)) whole_spent) (sym x.0) (hears id v other u (pass_note_is u.past.kind x.1)))
       can
-
-  -- What a desk that takes in a note may know: the note's history begins its own, and the note's last is not above its length
-  pub heard_is_known : (s : St) → Holds s → (id : ℕ) (v : View E) (other : ℕ) (u : View E) → get_elem? s.views id ≡ some v → get_elem? s.views other ≡ some u → v.past.kind ≡ Desk
-      → Begins u.past.seen v.past.seen × (u.past.last ≤ length v.past.seen)
-  heard_is_known s h id v other u at there desk_is =
-      let own = (h.past.each id v.past (at_past who legal right z s h id v at)).is_desk desk_is in
-      let f = h.past.each other u.past (at_map past_of s.views other u there) in
-      (subst (Begins u.past.seen) (sym own.1) f.seen, subst (λ (l : List E). u.past.last ≤ length l) (sym own.1) f.last)

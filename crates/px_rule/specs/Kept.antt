@@ -27,6 +27,15 @@ module _ {E : Type 0} where
     pub more_gaps : List Gap
     pub gaps : w.touch.gaps ≡ more_gaps ++ v.touch.gaps
 
+  -- The second view knows of the first n changes, and of places, all that the first knows: other calls of the seat may lie between
+  pub record Since (n : ℕ) (v w : View E) : Type 0 where
+    pub seen : take n w.past.seen ≡ take n v.past.seen
+    pub more : List Found
+    pub kept : w.touch.kept ≡ more ++ v.touch.kept
+    pub touched : v.touch.touches ≤ w.touch.touches
+    pub more_gaps : List Gap
+    pub gaps : w.touch.gaps ≡ more_gaps ++ v.touch.gaps
+
   -- each word written since is so
   pub record Wrote (P : Found → Type 0) (v w : View E) : Type 0 where
     pub words : List Found
@@ -61,6 +70,16 @@ module _ {E : Type 0} (z : Shape) (k n : ℕ) where
     pub passed : PassedBy w turn v
     pub gap : GapAt k n (path_of z (key_of w) turn) v
     pub none_kept : NoneKept k n w v
+
+  -- A touch behind the first `before` found a place of the path empty, behind words of other keys
+  pub record GapGained (before w : ℕ) (v : View E) : Type 0 where
+    pub turn : ℕ
+    pub within : turn < long_of z (key_of w)
+    pub passed : PassedBy w turn v
+    pub touch : ℕ
+    pub behind : before < touch
+    pub at : ℕ
+    pub gap : get_elem? v.touch.gaps at ≡ some (record { bank = k; version = n; place = path_of z (key_of w) turn; touches = touch })
 
 module _ {E : Type 0} (right : List E → Op → Operand → Operand → List ℕ → Type 0) (z : Shape) (k n : ℕ) where
   -- by what the view keeps the number stands for the operand

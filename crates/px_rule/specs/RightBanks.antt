@@ -5,6 +5,10 @@ use Rattle.px_text.specs.Sets.{Above}
 use Rattle.px_text.specs.Operands.{Operand, index, set_of, first_is_set, second_is_set}
 use Rattle.px_rule.specs.Words.{Small, node_word, step_word, key_of}
 
+-- the second bank has each word of the first, and what changed was 0
+abbrev pub Grown : (ℕ → ℕ) → (ℕ → ℕ) → Type 0
+Grown mem later = (p : ℕ) → mem p ≢ 0 → later p ≡ mem p
+
 -- `nodes` is the number of node places, and `mem` gives the word at each place.
 module _ (nodes : ℕ) (mem : ℕ → ℕ) where
   -- Number s names this set: none for 0, else the element of the word at node place s and the set of its tail

@@ -205,6 +205,14 @@ module _ {E : Type 0} where
   CanJoin v w = ((is_pass v.past.kind ≡ true) × (is_note w.past.kind ≡ true) × (w.past.permit ≡ None))
       ⊎ ((is_desk v.past.kind ≡ true) × (is_pass_note w.past.kind ≡ true) × ((w.past.permit ≡ None) ⊎ (v.past.permit ≡ None)))
 
+  -- What a desk that takes in a note knows: its history goes on from the note's, and the version that the note found last is not above its length
+  abbrev pub IsHeard : View E → View E → Type 0
+  IsHeard v note = Begins note.past.seen v.past.seen × (note.past.last ≤ length v.past.seen)
+
+  -- and what a pass knows: both histories begin what it has then seen
+  abbrev pub IsMet : View E → View E → View E → Type 0
+  IsMet v note w = Begins v.past.seen w.past.seen × Begins note.past.seen w.past.seen
+
   -- Accept: the entry of the desk's permit
   abbrev pub whole_accepted : View E → View E
   whole_accepted v = record v { past = accepted v.past }
@@ -238,6 +246,10 @@ module _ {E : Type 0} where
   Written k n p word v x w = w ≡ record v { touch = written k n p word x v.touch }
 
 module _ {E : Type 0} (who : E → ℕ) (legal : List E → Type 0) where
+  -- All that a seat has seen, and all that was joined into it, begins one legal history
+  abbrev pub IsTold : View E → Type 0
+  IsTold v = (top : ℕ) × Told who legal v.past top
+
   abbrev pub Loads : View E → ℕ → View E → Type 0
   Loads v n w = (w ≡ record v { past = loaded v.past n }) × Told who legal v.past n
 

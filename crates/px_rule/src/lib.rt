@@ -32,9 +32,9 @@
 //! the permit for one entry is split off ([`Shared::ask`]). The desk takes the note in
 //! ([`Shared::join`]) and adds 1 to the version word ([`Shared::change`]). That addition is the
 //! moment at which the change is accepted. The desk holds at most one permit at a time. Then notes
-//! of the desk go to the passes ([`Shared::note`], [`Shared::join`]), and a load
-//! ([`Shared::load`]) tells a pass that all that it has seen begins one legal history, as long as
-//! the version word says.
+//! of the desk go to the passes ([`Shared::note`], [`Shared::join`]). A join tells at once that the
+//! histories of both seats begin one legal history, and the desk that its own goes on from the
+//! note's. A load ([`Shared::load`]) tells how long that history is.
 //!
 //! **The life of a bank.** The desk takes a bank with count 0 by one exchange that writes the new
 //! version, the building bit and count 0 ([`Shared::claim_step`]). It stores 0 to each place and
@@ -57,6 +57,11 @@
 //! at most is being built, and what was zeroed is 0; a failed claim found calls inside; and entries
 //! are those that their passes asked for, with one permit at most.
 //!
+//! **What lasts.** What a seat keeps of a bank at a version, what numbers stand for in its view and
+//! what is blocked is so after every later call of it, inside the bank and out of it. That, and
+//! that a set has one number, are laws ([`what_is_known_lasts`],
+//! [`every_call_keeps_what_is_known`], [`a_set_has_one_number`]).
+//!
 //! **No crate above can break a clause.** The words and the base's token are private here, so a
 //! step is made by a call of this crate or not at all. The base takes a step only with a proof that
 //! it keeps the rule, whatever the other seats did before it. The conditions of the calls, as that a
@@ -67,6 +72,7 @@
 #![tactic(auto)]
 
 mod law;
+mod laws;
 mod plays;
 mod rule;
 mod shape;
@@ -78,6 +84,7 @@ mod view;
 mod words;
 
 pub use law::Law;
+pub use laws::{a_set_has_one_number, every_call_keeps_what_is_known, what_is_known_lasts};
 pub use rule::PushRule;
 pub use shape::Shape;
 pub use shared::{Seat, Shared};

@@ -64,6 +64,18 @@ impl<L: Law, A: Aim> Play<(), View<L::Entry>> for Loading<L, A> {
     ghost then = { λ _ me n after. Loads L.who L.legal me.0 n after.0 × Moment L.who L.legal L.right A.shape me.0 n × (after.1 ≡ me.1) };
 }
 
+/// A load behind a join. It leaves the view.
+pub(crate) struct Telling<L> {
+    law: PhantomData<L>,
+}
+
+impl<L: Law> Play<(), View<L::Entry>> for Telling<L> {
+    ghost use Rattle.std.specs.Prelude.{◌≡◌};
+    ghost use Rattle.px_rule.specs.Steps.{Told};
+
+    ghost then = { λ _ me n after. (after.0 ≡ me.0) × Told L.who L.legal me.0.past n × (after.1 ≡ me.1) };
+}
+
 /// Accept.
 pub(crate) struct Accepting<L> {
     law: PhantomData<L>,

@@ -39,7 +39,7 @@ impl Shape {
     }
 }
 
-fn two_to(bits: u32) -> u32
+pub(crate) fn two_to(bits: u32) -> u32
     requires bits { (4 ≤ bits) × (bits ≤ 20) }
     ensures number { result ≡ 2 ^ bits }
     ensures bounds { (16 ≤ result) × (result ≤ 1048576) }

@@ -1,9 +1,10 @@
 //! The table and its seats, and the calls on the history.
-ghost use Rattle.std.specs.Prelude.{◌≡◌, ◌+◌, ◌<◌, ◌++◌, ◌∷◌, [], length, Some, None, IfOk};
+ghost use Rattle.std.specs.Prelude.{◌≡◌, ◌+◌, ◌<◌, ◌++◌, ◌∷◌, [], true, length, Some, None, IfOk};
 ghost use Rattle.px_rule.specs.declared.view.Kind.TheVariants.{Desk, Pass};
 ghost use Rattle.px_rule.specs.Words.{IsShape};
 ghost use Rattle.px_rule.specs.Histories.{named};
-ghost use Rattle.px_rule.specs.Steps.{CanJoin, joined, opening_view, whole_note, whole_asking, whole_more, whole_pass, whole_accepted, Loads};
+ghost use Rattle.px_rule.specs.Rule.{is_pass};
+ghost use Rattle.px_rule.specs.Steps.{CanJoin, joined, opening_view, whole_note, whole_asking, whole_more, whole_pass, whole_accepted, IsTold, IsHeard, IsMet, Loads};
 ghost use Rattle.px_rule.specs.Clauses.{Moment};
 
 use crate::law::Law;
@@ -118,12 +119,15 @@ impl<L: Law> Shared<L> {
         }
     }
 
-    /// Takes a note without a permit into a pass, or a pass's note into the desk, with a permit only while the desk holds none.
+    /// Takes a note without a permit into a pass, or a pass's note into the desk, with a permit only while the desk holds none. It tells that all that the seat has then seen begins one legal history: the desk's goes on from the note's, and a pass's from both.
     pub fn join(&self, seat: &mut Seat<L>, note: Seat<L>)
         requires tables { (seat.old.table ≡ self.now) × (note.table ≡ self.now) }
         requires pair { CanJoin seat.old.view note.view }
         ensures table { seat.new.table ≡ seat.old.table }
         ensures view { seat.new.view ≡ joined seat.old.view note.view }
+        ensures told { IsTold L.who L.legal seat.new.view }
+        ensures heard { seat.old.view.past.kind ≡ Desk → IsHeard seat.old.view note.view }
+        ensures met { is_pass seat.old.view.past.kind ≡ true → IsMet seat.old.view note.view seat.new.view }
     {
         let Seat {
             token,

@@ -8,13 +8,13 @@ ghost use Rattle.px_rule.specs.declared.view.Stand.{Stand};
 ghost use Rattle.px_rule.specs.Words.{IsShape, size_of, words_of, packed};
 ghost use Rattle.px_rule.specs.Histories.{named};
 ghost use Rattle.px_rule.specs.Rule.{is_desk, is_pass};
-ghost use Rattle.px_rule.specs.Steps.{IsIn, CanJoin, joined, opening_view, whole_note, whole_asking, whole_more, whole_pass, Loads, Accepts, Enters, Leaves, Claims, Zeroed, Published, Looked, Written, Shown, MayWrite};
+ghost use Rattle.px_rule.specs.Steps.{IsIn, CanJoin, joined, opening_view, whole_note, whole_asking, whole_more, whole_pass, IsTold, Loads, Accepts, Enters, Leaves, Claims, Zeroed, Published, Looked, Written, Shown, MayWrite};
 ghost use Rattle.px_rule.specs.Clauses.{Moment};
 
 use crate::law::Law;
 use crate::plays::{
     Accepting, Aim, Asked, Asking, Claiming, Entering, Joining, Leaving, Loading, Looking, Making,
-    Noting, Publishing, Writing, Zeroing,
+    Noting, Publishing, Telling, Writing, Zeroing,
 };
 use crate::rule::{Token, Words};
 use crate::shape::Shape;
@@ -75,8 +75,10 @@ impl<L: Law> Table<L> {
         requires tables { (seat.old.table_id ≡ self.now.words.shared.table_id) × (note.table_id ≡ self.now.words.shared.table_id) × (note.me.1 ≡ []) }
         requires pair { CanJoin seat.old.me.0 note.me.0 }
         ensures view { (seat.new.table_id ≡ seat.old.table_id) × (seat.new.me ≡ (joined seat.old.me.0 note.me.0, seat.old.me.1)) }
+        ensures told { IsTold L.who L.legal (joined seat.old.me.0 note.me.0) }
     {
         self.words.shared.join_seat::<Joining>(seat, note);
+        self.words.shared.load::<Telling<L>>(seat, 0);
     }
 
     pub(crate) fn load<A: Aim>(&self, seat: &mut Token<L>) -> u64

@@ -1,9 +1,9 @@
 //! Words of facts, and the places at which they are looked for.
-ghost use Rattle.std.specs.Prelude.{◌≡◌, ℕ, ◌+◌, ◌%◌, ◌<◌, ◌≤◌};
+ghost use Rattle.std.specs.Prelude.{◌≡◌, ℕ, ◌+◌, ◌-◌, ◌%◌, ◌^◌, ◌<◌, ◌≤◌};
 ghost use Rattle.px_rule.specs.Kinds.{kind_of};
-ghost use Rattle.px_rule.specs.Words.{node_word as word_of_node, step_word as word_of_step, key_of, IsShape, size_of, steps_of, path_of, long_of, shows};
+ghost use Rattle.px_rule.specs.Words.{node_word as word_of_node, step_word as word_of_step, key_of, IsShape, size_of, nodes_of, steps_of, path_of, long_of, shows};
 
-use crate::shape::Shape;
+use crate::shape::{Shape, two_to};
 use px_text::Op;
 use std::cmp::min;
 
@@ -51,7 +51,7 @@ pub fn place(shape: &Shape, word: u64, i: u32) -> u32
     let start = (kind * 40503 + a * 2_654_435_761 + b * 2_246_822_519) % (1 << 32);
     let nodes = u64::from(shape.node_places());
     let at = if kind == 1 {
-        1 + (start + u64::from(i)) % (nodes - 1)
+        1 + node_turn(shape, start + u64::from(i))
     } else {
         nodes + step_turn(shape, start + u64::from(i))
     };
@@ -78,6 +78,30 @@ pub fn next_place(shape: &Shape, word: u64, place: u32) -> u32
         return shape.node_places();
     }
     next
+}
+
+// Which of the node places behind the first a path reaches at a number. Their count is one less than a power of two, so the remainder is taken by adding the number's parts.
+fn node_turn(shape: &Shape, number: u64) -> u64
+    requires shape { IsShape shape.now }
+    ensures remainder { result ≡ number % (nodes_of shape.now - 1) }
+    ensures within { result < nodes_of shape.now - 1 }
+{
+    let count = u64::from(shape.node_places() - 1);
+    let mut rest = number;
+    while rest > count {
+        rest = parts_added(rest, shape.node_bits);
+    }
+    if rest == count { 0 } else { rest }
+}
+
+// The part of a number above its lowest bits, and that of these bits, added.
+fn parts_added(number: u64, bits: u32) -> u64
+    requires bits { (4 ≤ bits) × (bits ≤ 20) }
+    requires large { 2 ^ bits ≤ number }
+    ensures less { result < number }
+    ensures remainder { result % (2 ^ bits - 1) ≡ number % (2 ^ bits - 1) }
+{
+    (number & u64::from(two_to(bits) - 1)) + (number >> bits)
 }
 
 // Which of the step places a path reaches at a number: their count is a power of two, so a mask takes the remainder.
