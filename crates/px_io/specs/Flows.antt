@@ -29,3 +29,9 @@ TakesFront (write.Took count) piece held after =
     (count ≤ length piece) × (0 < length piece → 0 < count) × AddsTo held (take count piece) after
 TakesFront write.Failed piece held after = after ≡ held
 TakesFront write.Memory piece held after = after ≡ held
+
+-- the whole piece was taken, or there was no memory
+abbrev pub TakesWhole : WriteAnswer → (piece : List ℕ) → Type 0
+TakesWhole (write.Took count) piece = count ≡ length piece
+TakesWhole write.Failed piece = ⊥
+TakesWhole write.Memory piece = Unit {0}

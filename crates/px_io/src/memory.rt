@@ -94,13 +94,17 @@ impl MemSink {
 
 impl Sink for MemSink {
     ghost use Rattle.std.specs.Prelude.{Some};
+    ghost use Rattle.px_io.specs.Flows.{TakesFront, TakesWhole};
 
     ghost held = { λ sink. Some sink };
 
     ghost faults = { λ _. 0 };
 
     /// Takes the whole piece, or answers `Memory`.
-    fn write(&mut self, piece: &[u8]) -> WriteAnswer {
+    fn write(&mut self, piece: &[u8]) -> WriteAnswer
+        ensures takes { TakesFront result piece.now (Some self.old) (Some self.new) }
+        ensures whole { TakesWhole result piece.now }
+    {
         match self.bytes.extend_from_slice(piece) {
             Ok(()) => WriteAnswer::Took(piece.len()),
             Err(_) => WriteAnswer::Memory,
