@@ -1,0 +1,15 @@
+pub mod Alike
+pub mod Answering
+pub mod Commands
+pub mod Lookups
+pub mod Numerals
+pub mod Parses
+pub mod Reading
+pub mod Rows
+pub mod Scan
+pub mod Spellings
+pub mod Turns
+pub mod Uses
+pub mod Values
+pub mod Walks
+pub mod Writing
