@@ -1,11 +1,12 @@
 #!/usr/bin/env python3
-"""Prints how long px_trial takes to build a program, and to call each function on sets of states.
+"""Prints how long px_trial takes for changes and to build a program, and to call each function on sets of states.
 
     bench/steps.py [--binary FILE] [--runs N] [--filters N ..]
 
-A row for each number of generated filters: the nanoseconds of one build or of one call (the mean
-of its calls; the best of several runs), how many states the program or members the set has that is
-its answer, and by what factor the filters, the time and the answer grew since the row before.
+A row for each number of generated filters: the nanoseconds of one add (with a list of the live
+filters after each, which takes it), of one snapshot, of one build or of one call (the mean of its
+calls; the best of several runs), how many filters, states or members its answer has, and by what
+factor the filters, the time and the answer grew since the row before.
 """
 import argparse
 import pathlib

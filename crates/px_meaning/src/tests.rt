@@ -39,9 +39,7 @@ fn element(alloc: Global, name: &[u8], children: Items<Node>) -> Result<Element,
 #[test]
 fn tells_elements_by_name(rt: HostRuntime) -> Result<(), Fail> {
     let alloc = rt.alloc();
-    let filter = Filter {
-        path: path_to(alloc, b"a", Items::new(alloc))?,
-    };
+    let filter = Filter::of(alloc, path_to(alloc, b"a", Items::new(alloc))?)?;
     for (name, expected) in [(b"a", true), (b"b", false)] {
         let root = element(alloc, name, Items::new(alloc))?;
         assert_eq!(rt; holds(&filter, &Tree { root }), expected);
@@ -59,9 +57,7 @@ fn joins_the_texts_of_an_element(rt: HostRuntime) -> Result<(), Fail> {
         Relation::Equal,
         Value::Number(Decimal::of_digits(false, b"12", b"")),
     ))?;
-    let filter = Filter {
-        path: path_to(alloc, b"a", conds)?,
-    };
+    let filter = Filter::of(alloc, path_to(alloc, b"a", conds)?)?;
     let mut texts = Items::new(alloc);
     texts.push(Node::Text(Bytes::of(alloc, b"2")?))?;
     let mut children = Items::new(alloc);

@@ -8,8 +8,9 @@
 //! `px_trial read` reads a document from standard input, with no machine behind it, and prints how
 //! many events it has.
 //!
-//! `px_trial times N` builds a program of N generated filters, and prints how long that took and how
-//! long a thousand calls of each function on sets of states took.
+//! `px_trial times N` adds N generated filters one by one, with a list of those that are live after
+//! each, builds their program, and prints how long that took and how long a thousand calls of each
+//! function on sets of states took.
 //!
 //! A trial that was cut short ends with 2. The tests follow the machine step by step along a run
 //! that was worked out by hand, and over small workloads whose ids are known.

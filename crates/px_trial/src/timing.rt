@@ -1,4 +1,4 @@
-//! How long a program takes to build, and how long each function on sets of states takes.
+//! How long changes and a program take, and how long each function on sets of states takes.
 
 ghost use Rattle.std.specs.Prelude.{◌≡◌};
 ghost use Rattle.px_prune.specs.Needing.{needs_of};
@@ -6,13 +6,14 @@ ghost use Rattle.px_prune.specs.Needing.{needs_of};
 use crate::compare::next_item;
 use crate::operands::Operands;
 use crate::trouble::Trouble;
-use crate::workload::{add as add_filter, filters};
+use crate::workload::{add as add_filter, add_to_both, filters};
 use px_afa::Program;
 use px_feed::{Item, Items, generate};
 use px_io::MemSource;
 use px_prune::{Needs, push};
 use px_step::{accept, add, mask, pop, value_number, value_text};
-use px_workload::Journal;
+use px_workload::{Journal, Live};
+use px_xpath::Numbered;
 use std::alloc::{AllocError, Global};
 use std::time::{Clock, Instant};
 
@@ -45,11 +46,13 @@ const FUNCTIONS: [(&str, Function); 7] = [
     ("accept", Function::Accept),
 ];
 
-/// Builds a program of so many generated filters, calls each function on its sets, and prints a
-/// line for the build and for each function: its name, how many calls, the nanoseconds that they
-/// took together, and how many states or members one answer has.
+/// Adds so many generated filters one by one, builds their program, calls each function on its
+/// sets, and prints a line for the adds, a snapshot, the build and each function: its name, how many
+/// calls, the nanoseconds that they took together, and how many filters, states or members one
+/// answer has.
 pub fn time_all<R: Clock + Print>(rt: &R, alloc: Global, count: u32) -> Result<(), Trouble> {
     let journal = generated(alloc, count)?;
+    time_changes(rt, alloc, &journal, count)?;
     let program = time_build(rt, alloc, &journal)?;
     let needs = Needs::build(alloc, &program)?;
     time_functions(rt, alloc, &program, &needs)
@@ -67,6 +70,36 @@ fn generated(alloc: Global, count: u32) -> Result<Journal, Trouble> {
         }
     }
     Ok(journal)
+}
+
+/// Times the adds of a journal's filters, so many, to another one, with a list of those that are
+/// live after each; and times one snapshot.
+fn time_changes<R: Clock + Print>(
+    rt: &R,
+    alloc: Global,
+    journal: &Journal,
+    count: u32,
+) -> Result<(), Trouble> {
+    let given = filters(alloc, journal)?;
+    let start = now(rt)?;
+    let live = added_again(alloc, given.as_slice())?;
+    let nanos = nanos_since(rt, &start)?;
+    print_time(rt, "live_add", count, nanos, live.as_slice().len())?;
+    let start = now(rt)?;
+    let snapshot = journal.snapshot(alloc)?;
+    let nanos = nanos_since(rt, &start)?;
+    print_time(rt, "snapshot", 1, nanos, snapshot.as_slice().len())
+}
+
+/// Adds filters one by one to a new journal, and to the list of its live filters, which is the
+/// answer.
+fn added_again(alloc: Global, given: &[Numbered]) -> Result<Live, Trouble> {
+    let mut journal = Journal::new(alloc);
+    let mut live = Live::new(alloc);
+    for numbered in given {
+        add_to_both(&mut journal, &mut live, numbered.filter.share()?)?;
+    }
+    Ok(live)
 }
 
 /// Times one build, which is the answer.

@@ -48,6 +48,24 @@ fn add_filter(journal: &mut Journal, filter: Filter) -> Result<(), Trouble>
     Err(Trouble::Full)
 }
 
+/// Adds a filter to a journal and to the list of its live filters, where it fits.
+pub fn add_to_both(journal: &mut Journal, live: &mut Live, filter: Filter) -> Result<(), Trouble>
+    requires lists { subscriptions live.old.filters ≡ histories.live (changes.history journal.old.changes) }
+    ensures lists { OnOk result (subscriptions live.new.filters ≡ histories.live (changes.history journal.new.changes)) }
+{
+    if !has_room(journal, &filter) {
+        return Err(Trouble::Full);
+    }
+    journal.reserve()?;
+    live.reserve()?;
+    let change = Change::Add { who: 0, filter };
+    let shared = change.share()?;
+    live_filters_are_in_order();
+    let version = journal.append(change);
+    live.take(version, shared);
+    Ok(())
+}
+
 /// Whether the filter may be added: the changes are not too many, and the live filters with it are
 /// small enough for a program. The journal tests neither, and requires both; and this stands apart
 /// from the add, so that its proof has the two limits as one fact.
@@ -61,10 +79,10 @@ fn has_room(journal: &Journal, filter: &Filter) -> bool
     u64::from(journal.live_size()) + u64::from(size(filter)) <= MOST_SIZE
 }
 
-/// Copies of the live filters, of which a program can be built.
+/// The live filters, of which a program can be built.
 pub fn filters(alloc: Global, journal: &Journal) -> Result<Live, Trouble>
-    ensures live { IfOk result (λ live. AreLive (subscriptions live)) }
-    ensures same { IfOk result (λ live. subscriptions live ≡ histories.live (changes.history journal.now.changes)) }
+    ensures live { IfOk result (λ live. AreLive (subscriptions live.filters)) }
+    ensures same { IfOk result (λ live. subscriptions live.filters ≡ histories.live (changes.history journal.now.changes)) }
 {
     live_filters_are_in_order();
     let _version = journal.version();

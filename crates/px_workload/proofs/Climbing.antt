@@ -1,5 +1,5 @@
 -- The ids of the live filters rise, and none is above the version.
-use Rattle.std.proofs.Common.{◌≡◌, ℕ, ◌+◌, ◌<◌, ◌≤◌, Bool, true, false, cond, List, [], ◌∷◌, ◌++◌, length, map, refl, sym, subst, inl, inr, arith, if◌then◌else◌}
+use Rattle.std.proofs.Common.{◌≡◌, ℕ, ◌+◌, ◌<◌, ◌≤◌, Bool, true, false, cond, List, [], ◌∷◌, ◌++◌, length, length-append, map, refl, sym, subst, inl, inr, arith, if◌then◌else◌}
 use Rattle.std.specs.Prelude.{filter, ◌==◌}
 use Rattle.std.proofs.lemmas.Bool.Decides.{eqb_tells}
 use Rattle.px_text.specs.Sets.{Above, Rising}
@@ -72,3 +72,19 @@ rising low (s ∷ rest) high h c = let below = c.1 in (omega (arith, below), abo
 -- the ids of a legal history's live filters rise, and are below 2^20
 pub live-rising : (history : List Change) → IsLegal history → Rising (map (λ s. s.id) (live history))
 live-rising history legal = rising 0 (live history) (length history) legal.1 (climbs_live 0 [] history (length history) (omega arith) tt)
+
+above_then : (low : ℕ) (l : List Subscription) (high : ℕ) → low < high + 1 → Climbs low l high → Above low (ids l ++ (high + 1) ∷ [])
+above_then low [] high h c = h
+above_then low (s ∷ rest) high h c = c.0
+
+rising_then : (low : ℕ) (l : List Subscription) (high : ℕ) → high < 1_048_575 → Climbs low l high → Rising (ids l ++ (high + 1) ∷ [])
+rising_then low [] high h c = (omega arith, tt, tt)
+rising_then low (s ∷ rest) high h c =
+    let below = c.1 in (omega (arith, below), above_then s.id rest high (omega (arith, below)) c.2, rising_then s.id rest high h c.2)
+
+-- and the version of a change that may come next is above them
+pub next-rising : (history : List Change) (change : Change) → IsLegal (history ++ change ∷ []) → Rising (map (λ s. s.id) (live history) ++ (length history + 1) ∷ [])
+next-rising history change legal =
+    let longer = length-append history (change ∷ []) in
+    let few = legal.1 in
+    rising_then 0 (live history) (length history) (omega (arith, longer, few)) (climbs_live 0 [] history (length history) (omega arith) tt)

@@ -1,4 +1,5 @@
 pub mod Climbing
+pub mod Following
 pub mod Growing
 pub mod Legal
 pub mod Listing

@@ -8,10 +8,16 @@ use Rattle.px_workload.specs.declared.change.Change.{Change}
 use Rattle.px_workload.specs.Changes.{change, history}
 use Rattle.px_workload.specs.Slots.{listed}
 use Rattle.px_workload.specs.Stands.{Stands}
-use Rattle.px_workload.proofs.Growing.{live_from-grows, last_may_come}
+use Rattle.px_workload.proofs.Growing.{live-grows, live_from-grows, last_may_come}
 
 pub one_more : (changes : List Change) (c : Change) → history (changes ++ c ∷ []) ≡ history changes ++ change c ∷ []
 one_more changes c = map-append change changes (c ∷ [])
+
+-- what is live behind a list of changes and one more
+pub live-behind : (changes : List Change) (c : Change) → live (history (changes ++ c ∷ [])) ≡ after (length changes + 1) (live (history changes)) (change c)
+live-behind changes c =
+    let same = length-map changes change in
+    ap live (one_more changes c) ∙ live-grows (history changes) (change c) ∙ ap (λ n. after (n + 1) (live (history changes)) (change c)) same
 
 count : (changes : List Change) (slots : List (Option Filter)) → length slots ≡ length changes → length slots + 1 ≡ 0 + length (history changes) + 1
 count changes slots e = let same = length-map changes change in omega arith

@@ -1,4 +1,5 @@
 pub mod Accepted
 pub mod Changes
+pub mod Listed
 pub mod Slots
 pub mod Stands

@@ -1,19 +1,20 @@
 //! The changes that were accepted, one after another.
 
-ghost use Rattle.std.specs.Prelude.{◌≡◌, ◌<◌, ◌≤◌, ◌+◌, ◌++◌, ◌∷◌, [], ℕ, length, IfOk, IfSome, IsSome, IsTrue, ◌↔◌, OnOk};
+ghost use Rattle.std.specs.Prelude.{◌≡◌, ◌<◌, ◌≤◌, ◌+◌, ◌++◌, ◌∷◌, [], ℕ, length, option_map, IfOk, IfSome, IsSome, IsTrue, ◌↔◌, OnOk};
 ghost use Rattle.std.specs.List.{find};
 ghost use Rattle.px_xpath.specs.Histories as histories;
 ghost use Rattle.px_xpath.specs.Whole as whole;
 ghost use Rattle.px_xpath.specs.declared.filter.Filter.{Filter};
 ghost use Rattle.px_xpath.specs.Subscribed.{subscriptions};
 ghost use Rattle.px_workload.specs.Changes as changes;
+ghost use Rattle.px_workload.specs.Slots.{named};
 
 use crate::change::Change;
 use crate::live::Live;
 use crate::past::Past;
-use crate::snapshot::{copies, copies_after};
+use crate::snapshot::{shares, shares_after};
 use crate::table::Table;
-use px_xpath::size;
+use px_xpath::{Filter, size};
 use std::alloc::{AllocError, Global};
 use std::marker::Model;
 
@@ -95,6 +96,13 @@ impl Journal {
         self.table.filter_of(id).is_some()
     }
 
+    /// The live filter of an id. It takes no memory.
+    pub fn filter_of(&self, id: u32) -> Option<&Filter>
+        ensures found { option_map (λ filter. named id filter.now) result ≡ find (histories.is_of id) (histories.live (changes.history self.now.changes)) }
+    {
+        self.table.filter_of(id)
+    }
+
     /// The size of a live filter. Without it, and with the size of another, the live size is that of
     /// the workload in which the other takes its place.
     pub fn size_of(&self, id: u32) -> u32
@@ -108,21 +116,21 @@ impl Journal {
         }
     }
 
-    /// Copies of the live filters in the order of their ids. It takes memory for each, and fails only
+    /// The live filters in the order of their ids. It takes memory for the list alone, and fails only
     /// where that is refused.
     pub fn snapshot(&self, alloc: Global) -> Result<Live, AllocError>
-        ensures live { IfOk result (λ live. subscriptions live ≡ histories.live (changes.history self.now.changes)) }
+        ensures live { IfOk result (λ live. subscriptions live.filters ≡ histories.live (changes.history self.now.changes)) }
     {
-        Ok(Live::of(copies(alloc, &self.table.slots)?))
+        Ok(Live::of(shares(alloc, &self.table.slots)?))
     }
 
-    /// Copies of the filters that would be live behind a change that may come next, in the order of
-    /// their ids. It takes memory for each, and fails only where that is refused.
+    /// The filters that would be live behind a change that may come next, in the order of their ids.
+    /// It takes memory for the list alone, and fails only where that is refused.
     pub fn snapshot_after(&self, alloc: Global, change: &Change) -> Result<Live, AllocError>
         requires legal { histories.IsLegal (changes.history (self.now.changes ++ change.now ∷ [])) }
-        ensures live { IfOk result (λ live. subscriptions live ≡ histories.live (changes.history (self.now.changes ++ change.now ∷ []))) }
+        ensures live { IfOk result (λ live. subscriptions live.filters ≡ histories.live (changes.history (self.now.changes ++ change.now ∷ []))) }
     {
-        Ok(Live::of(copies_after(alloc, &self.table.slots, change)?))
+        Ok(Live::of(shares_after(alloc, &self.table.slots, change)?))
     }
 }
 

@@ -6,6 +6,7 @@ mod journal;
 mod laws;
 mod live;
 mod past;
+mod places;
 mod snapshot;
 mod table;
 

@@ -1,4 +1,4 @@
-//! Copies of the filters in a table.
+//! The filters of a table, shared.
 
 ghost use Rattle.std.specs.Prelude.{◌≡◌, ◌<◌, ◌≤◌, ◌+◌, ◌++◌, ℕ, length, IfOk, OnOk};
 ghost use Rattle.px_xpath.specs.Histories.{after};
@@ -10,20 +10,20 @@ use crate::change::Change;
 use px_xpath::{Filter, Numbered};
 use std::alloc::{AllocError, Global};
 
-/// Copies of the filters, with their ids.
-pub(crate) fn copies(alloc: Global, slots: &[Option<Filter>]) -> Result<Vec<Numbered>, AllocError>
+/// The filters, with their ids.
+pub(crate) fn shares(alloc: Global, slots: &[Option<Filter>]) -> Result<Vec<Numbered>, AllocError>
     requires { length slots.now ≤ 1_048_575 }
     ensures { IfOk result (λ live. subscriptions live.items ≡ listed slots.now) }
 {
     let mut live = Vec::new(alloc);
     for (at, slot) in slots.iter().enumerate() {
-        push_copy(alloc, &mut live, at as u32 + 1, slot.as_ref())?;
+        push_share(&mut live, at as u32 + 1, slot.as_ref())?;
     }
     Ok(live)
 }
 
-/// Copies of the filters that would stand behind a change, with their ids.
-pub(crate) fn copies_after(
+/// The filters that would stand behind a change, with their ids.
+pub(crate) fn shares_after(
     alloc: Global,
     slots: &[Option<Filter>],
     change: &Change,
@@ -31,13 +31,13 @@ pub(crate) fn copies_after(
     requires { length slots.now ≤ 1_048_575 }
     ensures { IfOk result (λ live. subscriptions live.items ≡ after (length slots.now + 1) (listed slots.now) (changes.change change.now)) }
 {
-    let mut live = copies_kept(alloc, slots, change)?;
-    push_copy(alloc, &mut live, slots.len() as u32 + 1, added_by(change))?;
+    let mut live = shares_kept(alloc, slots, change)?;
+    push_share(&mut live, slots.len() as u32 + 1, added_by(change))?;
     Ok(live)
 }
 
-/// Copies of the filters that a change leaves or exchanges, with their ids.
-fn copies_kept(
+/// The filters that a change leaves or exchanges, with their ids.
+fn shares_kept(
     alloc: Global,
     slots: &[Option<Filter>],
     change: &Change,
@@ -48,7 +48,7 @@ fn copies_kept(
     let mut live = Vec::new(alloc);
     for (at, slot) in slots.iter().enumerate() {
         let id = at as u32 + 1;
-        push_copy(alloc, &mut live, id, kept_by(slot, id, change))?;
+        push_share(&mut live, id, kept_by(slot, id, change))?;
     }
     Ok(live)
 }
@@ -79,19 +79,14 @@ fn added_by(change: &Change) -> Option<&Filter>
     }
 }
 
-/// Adds a copy of the filter that stands at an id, if one does.
-fn push_copy(
-    alloc: Global,
-    live: &mut Vec<Numbered>,
-    id: u32,
-    filter: Option<&Filter>,
-) -> Result<(), AllocError>
+/// Adds the filter that stands at an id, if one does.
+fn push_share(live: &mut Vec<Numbered>, id: u32, filter: Option<&Filter>) -> Result<(), AllocError>
     ensures { OnOk result (subscriptions live.new.items ≡ subscriptions live.old.items ++ listed_one id (read_slot filter.entry)) }
 {
     let Some(filter) = filter else {
         return Ok(());
     };
-    let filter = filter.copy(alloc)?;
+    let filter = filter.share()?;
     live.push(Numbered { id, filter })?;
     Ok(())
 }

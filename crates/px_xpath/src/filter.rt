@@ -1,11 +1,13 @@
 //! Filters as values of the program.
 
 ghost use Rattle.std.specs.Prelude.{IsTrue};
+ghost use Rattle.std.specs.Arc.{arc_value};
 ghost use Rattle.px_xpath.specs.Views.{way};
 ghost use Rattle.px_xpath.specs.Proper.{is_proper};
 
 use px_text::{Bytes, Decimal};
 use sqlite_items::{Boxed, Items};
+use std::sync::Arc;
 
 /// How far below a place a step looks: among its children, or among all that is below it.
 #[derive(Clone, Copy, Debug, Drop, PartialEq, Eq, PartialOrd, Ord)]
@@ -70,8 +72,9 @@ pub enum Cond {
 }
 
 /// A filter: each path in it has a step, each `and` and `or` two members, and a literal only an equality before it.
+/// Its path is shared by all that were made of it with `share`.
 #[derive(Drop)]
 pub struct Filter {
-    pub path: Path,
-    ghost proper: { IsTrue (is_proper (way path)) },
+    pub path: Arc<Path>,
+    ghost proper: { IsTrue (is_proper (way (arc_value path))) },
 }

@@ -5,7 +5,6 @@
 //! text that is no filter, and what a filter means at a tree.
 #![tactic(auto)]
 
-mod copies;
 mod descent;
 mod fault;
 mod filter;
@@ -15,6 +14,7 @@ mod order;
 mod parser;
 mod printer;
 mod read_back;
+mod sharing;
 mod sizes;
 mod token;
 mod tokenizer;

@@ -26,7 +26,7 @@ pub fn parse(alloc: Global, text: &[u8]) -> Result<Filter, ParseFault>
     }
     let tokens = tokens_of(alloc, text)?;
     match filter_path(alloc, tokens.as_slice()) {
-        Ok(path) => Ok(Filter { path }),
+        Ok(path) => Ok(Filter::of(alloc, path)?),
         Err(stop) => Err(refusal(text.len() as u32, stop)),
     }
 }

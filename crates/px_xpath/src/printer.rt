@@ -283,9 +283,7 @@ mod tests {
             test: Test::Attribute(Bytes::of(alloc, b"id")?),
             conds: Items::new(alloc),
         })?;
-        let filter = Filter {
-            path: Path { steps },
-        };
+        let filter = Filter::of(alloc, Path { steps })?;
         assert_eq!(rt; print(alloc, &filter)?.as_slice(), b"//@id".as_slice());
         assert_eq!(rt; size(&filter), 1);
         Ok(())

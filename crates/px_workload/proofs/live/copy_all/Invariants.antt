@@ -1,7 +1,0 @@
--- What is copied are the first filters.
-use Rattle.std.proofs.Common.{◌≡◌, take}
-use Rattle.px_xpath.specs.Subscribed.{subscriptions}
-use Rattle.px_workload.proofs.live.copy_all.Given as goal
-
-abbrev pub invariant-loop-numbered : goal.invariant-loop-numbered
-invariant-loop-numbered l = subscriptions l.copy.items ≡ subscriptions (take l.numbered-index l.filters)
