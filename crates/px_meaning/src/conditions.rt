@@ -37,7 +37,7 @@ fn some_holds(conds: &[Cond], at: Place) -> bool
 
 /// Whether a condition holds.
 #[cycle(holds)]
-fn condition_holds(cond: &Cond, at: Place) -> bool
+pub fn condition_holds(cond: &Cond, at: Place) -> bool
     ensures { result ≡ meaning.condition_holds (condition cond.now) (place at.entry) }
 {
     match cond {

@@ -2,7 +2,8 @@
 //!
 //! [`holds`] follows the definition of that meaning: it goes down the tree, one place at a time,
 //! for one filter. It keeps nothing of what it has seen, so it takes no memory, and it serves as
-//! the yardstick of whatever answers many filters at speed.
+//! the yardstick of whatever answers many filters at speed. Its parts serve to say why a filter
+//! holds: [`condition_holds`], [`passes`], [`meets`] and [`end_holds`] at a [`Place`].
 #![tactic(auto, using(px_xpath::proofs::FilterViews::views, px_tree::proofs::TreeViews::views, crate::proofs::Weights::steps))]
 
 ghost use Rattle.std.specs.Prelude.{◌≡◌};
@@ -17,8 +18,10 @@ mod place;
 #[cfg(test)]
 mod tests;
 
-use paths::{End, steps_hold};
-use place::Place;
+pub use conditions::condition_holds;
+use paths::steps_hold;
+pub use paths::{End, end_holds, meets, passes};
+pub use place::{Place, place_of};
 use px_tree::Tree;
 use px_xpath::Filter;
 

@@ -25,7 +25,7 @@ pub enum End<'a> {
 }
 
 /// Whether the end of a path holds at its last place.
-fn end_holds(end: End, at: Place) -> bool
+pub fn end_holds(end: End, at: Place) -> bool
     ensures { result ≡ ends.end_holds end.entry (place at.entry) }
 {
     match end {
@@ -35,7 +35,7 @@ fn end_holds(end: End, at: Place) -> bool
 }
 
 /// Whether a place is of the kind and name that a step asks for.
-fn meets(test: &Test, at: Place) -> bool
+pub fn meets(test: &Test, at: Place) -> bool
     ensures { result ≡ meaning.meets test.now (place at.entry) }
 {
     match (test, at) {
@@ -75,7 +75,7 @@ pub fn steps_hold(steps: &[Step], end: End, from: Place) -> bool
 
 /// Whether a place meets a step, and the rest of the path leads on from it.
 #[cycle(holds)]
-fn passes(step: &Step, rest: &[Step], end: End, at: Place) -> bool
+pub fn passes(step: &Step, rest: &[Step], end: End, at: Place) -> bool
     ensures { result ≡ passes step.now rest.now end.entry (place at.entry) }
 {
     meets(&step.test, at) && all_hold(step.conds.as_slice(), at) && steps_hold(rest, end, at)

@@ -1,0 +1,11 @@
+pub mod Sound
+pub mod Accepted
+pub mod Seeking
+pub mod Leaving
+pub mod Light
+pub mod Outcomes
+pub mod Searching
+pub mod Bounded
+pub mod Written
+pub mod Numerals
+pub mod ReadBack

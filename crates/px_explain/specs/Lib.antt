@@ -1,0 +1,13 @@
+pub mod Table
+pub mod Bounds
+pub mod Canonical
+pub mod Rows
+pub mod Seeking
+pub mod Leaving
+pub mod Checking
+pub mod Writing
+pub mod Serving
+pub mod Failing
+pub mod Texts
+pub mod Lines
+pub mod Refusing
