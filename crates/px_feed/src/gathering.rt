@@ -88,6 +88,6 @@ impl Gathering {
         self.reader.end(&mut self.events)?;
         self.events.clear();
         let bytes = mem::replace(&mut self.bytes, Vec::new(self.alloc));
-        Ok(Doc::spelt(Bytes::from_vec(bytes)))
+        Doc::of(self.alloc, Bytes::from_vec(bytes))
     }
 }

@@ -20,3 +20,5 @@ pub mod Taken
 pub mod Readings
 pub mod Feeding
 pub mod Closing
+pub mod Marking
+pub mod Telling

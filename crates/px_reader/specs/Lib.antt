@@ -7,3 +7,5 @@ pub mod Judged
 pub mod States
 pub mod Reading
 pub mod Documents
+pub mod Happenings
+pub mod Marks

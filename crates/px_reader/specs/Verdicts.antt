@@ -2,7 +2,8 @@
 use Rattle.std.specs.Prelude.{◌≡◌, ℕ, ◌+◌, ◌-◌, ◌<◌, Bool, true, false, List, [], ◌∷◌, ◌++◌, length, take, sum_by, slice_get, Some, IsUtf8, count_by}
 use Rattle.px_text.specs.Nodes.{Root}
 use Rattle.px_reader.specs.Lines.{Line, Opens, Closes, Gives, lines_of, without_end}
-use Rattle.px_reader.specs.Spelling.{Spells, kinds}
+use Rattle.px_reader.specs.Spelling.{Spells, kinds, events_of}
+use Rattle.px_reader.specs.declared.event.Event.{Event}
 use Rattle.px_reader.specs.declared.fault.DocKind.{DocKind}
 use Rattle.px_reader.specs.declared.fault.DocKind.TheVariants.{NotHere, NotUtf8, LineLong, TooDeep, TooManyAttributes, TooBig, Truncated}
 
@@ -75,3 +76,13 @@ HasVerdict bytes verdict = Judges (lines_of bytes) verdict
 -- the bytes spell a tree, within the limits
 abbrev pub SpellsTree : List ℕ → Type 0
 SpellsTree bytes = ∥ ((root : Root) × HasVerdict bytes (IsTree root)) ∥₁
+
+-- the events are those of the tree that the bytes spell, if they spell one
+abbrev pub AreTreeEvents : List ℕ → List Event → Type 0
+AreTreeEvents bytes given = (root : Root) → HasVerdict bytes (IsTree root) → given ≡ events_of root
+
+-- The bytes spell a tree, and these are its events.
+pub record AreEvents (bytes : List ℕ) (given : List Event) : Type 0 where
+  pub root : Root
+  pub verdict : HasVerdict bytes (IsTree root)
+  pub events_are : given ≡ events_of root

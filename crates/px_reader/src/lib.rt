@@ -7,8 +7,10 @@
 mod cuts;
 mod doc;
 mod event;
+mod event_list;
 mod extent;
 mod fault;
+mod happening;
 mod laws;
 mod machine;
 mod reader;
@@ -16,7 +18,9 @@ mod reader;
 pub use cuts::{split_at_space, without_end};
 pub use doc::Doc;
 pub use event::Event;
+pub use event_list::EventList;
 pub use fault::{DocFault, DocKind, ReaderFault};
+pub use happening::Happening;
 pub use laws::{machine_is_right, verdicts_are_one};
 pub use reader::Reader;
 

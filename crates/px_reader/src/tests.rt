@@ -2,7 +2,7 @@
 
 ghost use Rattle.std.specs.Prelude.{◌<◌};
 
-use crate::{Doc, Event, Reader, ReaderFault};
+use crate::{Doc, Event, EventList, Happening, Reader, ReaderFault};
 use px_text::Bytes;
 use std::alloc::{AllocError, Global};
 use std::process::Abort;
@@ -159,8 +159,32 @@ fn whole_documents(rt: HostRuntime) -> Result<(), Fail> {
     let alloc = rt.alloc();
     let doc = Doc::of(alloc, Bytes::of(alloc, b"(a\n)a\n")?)?;
     assert_eq!(rt; doc.bytes(), b"(a\n)a\n".as_slice());
+    assert_eq!(rt; doc.events().len(), 2);
     let refused = Doc::of(alloc, Bytes::of(alloc, b"(a\n")?);
     assert!(rt; refused.is_err());
+    Ok(())
+}
+
+#[test]
+fn lists_of_events(rt: HostRuntime) -> Result<(), Fail> {
+    let alloc = rt.alloc();
+    let mut events = EventList::new(alloc);
+    events.push(Happening::Start { name: b"a" })?;
+    events.push(Happening::Attr {
+        name: b"b",
+        value: b"",
+    })?;
+    events.push(Happening::Text { text: b"cd" })?;
+    events.push(Happening::End)?;
+    assert_eq!(rt; events.len(), 4);
+    assert!(rt; matches!(events.get(0), Happening::Start { name } if name == b"a".as_slice()));
+    assert!(rt;
+        matches!(events.get(1), Happening::Attr { name, value } if name == b"b".as_slice() && value.is_empty())
+    );
+    assert!(rt; matches!(events.get(2), Happening::Text { text } if text == b"cd".as_slice()));
+    assert!(rt; matches!(events.get(3), Happening::End));
+    events.clear();
+    assert_eq!(rt; events.len(), 0);
     Ok(())
 }
 
