@@ -11,3 +11,4 @@ pub mod Total
 pub mod Unique
 pub mod Fronts
 pub mod Fewness
+pub mod OneOutput

@@ -23,7 +23,9 @@ pub use feed::{Items, Taken};
 pub use generator::generate;
 pub use id::id_of;
 pub use item::Item;
-pub use laws::{a_feed_has_one_list_of_items, every_feed_has_an_output, every_feed_has_items};
+pub use laws::{
+    a_feed_has_one_list_of_items, an_output_is_one, every_feed_has_an_output, every_feed_has_items,
+};
 pub use line::{FeedFault, FeedKind, OutLine, line_of};
 pub use status::Status;
 

@@ -65,12 +65,12 @@ walked : {s end : State} {ts rest : List Placed} → Leads s ts end rest →
 walked (stays e) = ([], _, refl, rests, e)
 walked (moves {p = p} e f l) = let (front, last, same, w, a) = walked l in (p ∷ front, last, ap (λ us. p ∷ us) same, goes e f w, a)
 
-words-append : (xs ys : List Placed) → words (xs ++ ys) ≡ words xs ++ words ys
+pub words-append : (xs ys : List Placed) → words (xs ++ ys) ≡ words xs ++ words ys
 words-append [] ys = refl
 words-append (x ∷ xs) ys = ap (λ zs. x.token ∷ zs) (words-append xs ys)
 
 -- a list at one of its places
-cut_at : (xs : List Placed) (k : ℕ) → k < length xs → (front : List Placed) × (p : Placed) × (back : List Placed) × (xs ≡ front ++ (p ∷ back)) × (length front ≡ k)
+pub cut_at : (xs : List Placed) (k : ℕ) → k < length xs → (front : List Placed) × (p : Placed) × (back : List Placed) × (xs ≡ front ++ (p ∷ back)) × (length front ≡ k)
 cut_at [] k h = absurd (omega arith)
 cut_at (x ∷ xs) zero h = ([], x, xs, refl, refl)
 cut_at (x ∷ xs) (suc k) h = let (front, p, back, e, l) = cut_at xs k (omega arith) in (x ∷ front, p, back, ap (λ ys. x ∷ ys) e, ap suc l)
@@ -79,11 +79,11 @@ before_is : (front back : List Placed) → before (front ++ back) (length front)
 before_is [] back = refl
 before_is (x ∷ xs) back = ap (λ ys. x.token ∷ ys) (before_is xs back)
 
-through_is : (front : List Placed) (p : Placed) (back : List Placed) → through (front ++ (p ∷ back)) (length front) ≡ words front ++ p.token ∷ []
+pub through_is : (front : List Placed) (p : Placed) (back : List Placed) → through (front ++ (p ∷ back)) (length front) ≡ words front ++ p.token ∷ []
 through_is [] p back = refl
 through_is (x ∷ xs) p back = rw add-one (ap (λ ys. x.token ∷ ys) (rw add-one at (through_is xs p back)))
 
-get_is : (front : List Placed) (p : Placed) (back : List Placed) → slice_get (front ++ (p ∷ back)) (length front) ≡ Some p
+pub get_is : (front : List Placed) (p : Placed) (back : List Placed) → slice_get (front ++ (p ∷ back)) (length front) ≡ Some p
 get_is [] p back = refl
 get_is (x ∷ xs) p back = get_is xs p back
 

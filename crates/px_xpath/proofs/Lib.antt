@@ -30,3 +30,4 @@ pub mod Nesting
 pub mod ShortNumbers
 pub mod Ties
 pub mod Total
+pub mod OneFault

@@ -1,5 +1,5 @@
 //! Laws of the definitions: where tokens begin a filter, that they write at most one, and that
-//! every text is a filter or has a fault.
+//! every text is one filter or has one fault.
 
 ghost use Rattle.std.specs.Prelude.{◌≡◌, ◌↔◌, ◌⊎◌, ℕ, List, true, IsSome};
 ghost use Rattle.px_xpath.specs.declared.fault.FilterFault.{FilterFault};
@@ -24,4 +24,11 @@ pub fn writes_at_most_one()
 /// Every text is a filter or has a fault.
 pub fn every_text_is_read_or_refused()
     ensures { (text : List ℕ) → ((filter : Way) × IsText text filter) ⊎ ((fault : FilterFault) × HasFault text fault) }
+{}
+
+/// A text is at most one filter, has at most one fault, and none where it is a filter.
+pub fn a_text_is_one_filter_or_has_one_fault()
+    ensures filter { (text : List ℕ) (filter other : Way) → IsText text filter → IsText text other → filter ≡ other }
+    ensures fault { (text : List ℕ) (fault other : FilterFault) → HasFault text fault → HasFault text other → fault ≡ other }
+    ensures never_both { (text : List ℕ) (filter : Way) (fault : FilterFault) → IsText text filter → HasFault text fault → ⊥ }
 {}

@@ -21,7 +21,10 @@ mod tokenizer;
 
 pub use fault::{FilterFault, ParseFault};
 pub use filter::{Axis, Cond, Filter, Path, Relation, Step, Test, Value};
-pub use laws::{every_text_is_read_or_refused, machine_is_right, writes_at_most_one};
+pub use laws::{
+    a_text_is_one_filter_or_has_one_fault, every_text_is_read_or_refused, machine_is_right,
+    writes_at_most_one,
+};
 pub use numbered::Numbered;
 pub use order::equal_is_same;
 pub use parser::parse;
