@@ -22,3 +22,13 @@ pub mod Feeding
 pub mod Closing
 pub mod Marking
 pub mod Telling
+pub mod LineTexts
+pub mod QuickLines
+pub mod Stacked
+pub mod Buffered
+pub mod Pushed
+pub mod Scans
+pub mod ReadOn
+pub mod Plainness
+pub mod TextScans
+pub mod AttributeScans

@@ -9,3 +9,9 @@ pub mod Reading
 pub mod Documents
 pub mod Happenings
 pub mod Marks
+pub mod Stacks
+pub mod Buffers
+pub mod Scanned
+pub mod Scanning
+pub mod ReadingOn
+pub mod Plain

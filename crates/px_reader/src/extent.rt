@@ -33,6 +33,13 @@ impl Extent {
         self.lines
     }
 
+    /// How many bytes more there may be.
+    pub fn room(&self) -> u64
+        ensures { result + self.now.size ≡ 16_777_216 }
+    {
+        MAX_SIZE - self.size
+    }
+
     /// The extent with more bytes, unless they are too many.
     pub fn with_bytes(&self, count: usize) -> Option<Extent>
         ensures { MatchOption result (16_777_216 < self.now.size + count)

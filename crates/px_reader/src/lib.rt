@@ -2,6 +2,9 @@
 //!
 //! `specs/` says which lines spell which tree, and what the verdict on some bytes is. A [`Reader`]
 //! is fed the bytes in any pieces and gives the events; a [`Doc`] holds bytes that spell a tree.
+//!
+//! [`Lines`] joins pieces to whole lines, and a [`Scanner`] judges each where it lies: what it brings is seen as a
+//! [`Happening`], an event that borrows its bytes. No command stands on them yet.
 #![tactic(auto)]
 
 mod cuts;
@@ -12,17 +15,23 @@ mod extent;
 mod fault;
 mod happening;
 mod laws;
+mod lines;
 mod machine;
+mod name_stack;
 mod reader;
+mod scanner;
 
 pub use cuts::{split_at_space, without_end};
 pub use doc::Doc;
 pub use event::Event;
 pub use event_list::EventList;
-pub use fault::{DocFault, DocKind, ReaderFault};
+pub use fault::{DocFault, DocKind, LineFault, ReaderFault};
 pub use happening::Happening;
 pub use laws::{machine_is_right, verdicts_are_one};
+pub use lines::{Lines, PushFault};
+pub use name_stack::NameStack;
 pub use reader::Reader;
+pub use scanner::{JudgedLine, Own, Place, QuickLine, Scanner, Seen, Told};
 
 #[cfg(test)]
 mod tests;
