@@ -13,6 +13,7 @@ ghost use Rattle.px_afa.specs.Machine.{machine_of};
 ghost use Rattle.px_afa.specs.Accepting.{HaveSteps, accepted};
 ghost use Rattle.px_afa.specs.Steps.{step, value_steps, raise_steps};
 ghost use Rattle.px_reader.specs.declared.event.Event.{Event as Happened};
+ghost use Rattle.px_reader.specs.Happenings.{event_of};
 ghost use Rattle.px_runner.specs.Operands.{IsLabel, AreStates};
 ghost use Rattle.px_runner.specs.Memos.{Keeps, Advances};
 ghost use Rattle.px_runner.specs.Events.{Opened, with_child, values_in, begun, after_end, end_steps, after_event, event_steps, after_events, ground};
@@ -25,7 +26,7 @@ use crate::ops::push;
 use crate::raise::{close, give, text_values};
 use px_afa::Program;
 use px_prune::first;
-use px_reader::Event;
+use px_reader::Happening;
 use px_step::accept;
 use px_text::{Ids, Set};
 use std::alloc::{AllocError, Global};
@@ -104,15 +105,15 @@ impl Runner {
     pub fn event<M: Memo>(
         &mut self,
         program: &Program,
-        next: &Event,
+        next: Happening<'_>,
         memo: &mut M,
     ) -> Result<(), AllocError>
         requires program { M.states memo.old ≡ program.now.states }
         requires begun { (given : List Happened) × HasRun M.states M.stands_for memo.old self.old program.now given × (length given + 1 < 2 ^ 60) }
         ensures ok { OnOk result ((given : List Happened) → HasRun M.states M.stands_for memo.old self.old program.now given →
-            HasRun M.states M.stands_for memo.new self.new program.now (given ++ next.now ∷ [])
+            HasRun M.states M.stands_for memo.new self.new program.now (given ++ (event_of next.entry) ∷ [])
             × Advances M.states M.stands_for M.tells memo.old memo.new
-            (event_steps program.now.states (after_events program.now.states (ground program.now) given) next.now) (held_by next.now)) }
+            (event_steps program.now.states (after_events program.now.states (ground program.now) given) (event_of next.entry)) (held_by (event_of next.entry))) }
         ensures err { OnErr result (Keeps M.states M.stands_for memo.old memo.new) }
     {
         self.take(program, next, memo)
@@ -122,24 +123,24 @@ impl Runner {
     fn take<M: Memo>(
         &mut self,
         program: &Program,
-        next: &Event,
+        next: Happening<'_>,
         memo: &mut M,
     ) -> Result<(), AllocError>
         requires program { M.states memo.old ≡ program.now.states }
         requires at { (opened : Opened) × (made : ℕ) × IsAt M.states M.stands_for memo.old self.old opened made × (made + 7 < 2 ^ 64) }
         ensures ok { OnOk result ((opened : Opened) (made : ℕ) → IsAt M.states M.stands_for memo.old self.old opened made →
-            IsAt M.states M.stands_for memo.new self.new (after_event program.now.states opened next.now) (made + length (event_steps program.now.states opened next.now))
-            × Advances M.states M.stands_for M.tells memo.old memo.new (event_steps program.now.states opened next.now) (held_by next.now)) }
+            IsAt M.states M.stands_for memo.new self.new (after_event program.now.states opened (event_of next.entry)) (made + length (event_steps program.now.states opened (event_of next.entry)))
+            × Advances M.states M.stands_for M.tells memo.old memo.new (event_steps program.now.states opened (event_of next.entry)) (held_by (event_of next.entry))) }
         ensures err { OnErr result (Keeps M.states M.stands_for memo.old memo.new) }
     {
         match next {
-            Event::Start { name } => self.start(memo, program.label_of_element(name.as_slice())),
-            Event::Attr { name, value } => {
-                let label = program.label_of_attribute(name.as_slice());
-                self.leaf(program, memo, label, value.as_slice(), b"")
+            Happening::Start { name } => self.start(memo, program.label_of_element(name)),
+            Happening::Attr { name, value } => {
+                let label = program.label_of_attribute(name);
+                self.leaf(program, memo, label, value, b"")
             }
-            Event::Text { text } => self.leaf(program, memo, 0, text.as_slice(), text.as_slice()),
-            Event::End => self.end(program, memo),
+            Happening::Text { text } => self.leaf(program, memo, 0, text, text),
+            Happening::End => self.end(program, memo),
         }
     }
 

@@ -60,7 +60,7 @@ pub fn run_over<M: Memo>(
     }
     let mut runner = Runner::new(alloc, program, memo)?;
     for event in events {
-        runner.event(program, event, memo)?;
+        runner.event(program, event.seen(), memo)?;
     }
     Ok(runner)
 }

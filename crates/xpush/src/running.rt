@@ -28,7 +28,7 @@ pub fn take_all<M: Memo>(
     ensures same { M.states memo.new ≡ M.states memo.old }
 {
     for next in events {
-        runner.event(program, next, memo)?;
+        runner.event(program, next.seen(), memo)?;
     }
     Ok(())
 }

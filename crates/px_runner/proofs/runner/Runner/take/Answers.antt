@@ -1,4 +1,5 @@
-use Rattle.std.proofs.Common.{◌≡◌, [], Some, None, sym, subst, refl}
+use Rattle.std.proofs.Common.{◌≡◌, [], Some, None, sym, subst, refl, ap}
+use Rattle.px_reader.specs.Happenings.{event_of}
 use Rattle.px_reader.specs.declared.event.Event.TheVariants.{Start, Attr, Text, End}
 use Rattle.px_afa.specs.Contents.{ElementKind, AttributeKind}
 use Rattle.px_afa.specs.Steps.{label_of}
@@ -9,36 +10,36 @@ use Rattle.px_runner.proofs.runner.Runner.take.Goals as goal
 
 pub start-requires-clause-label : goal.start-requires-clause-label
 start-requires-clause-label g c =
-    let is : c.label_of_element.result ≡ label_of c.args.program.now.states (ElementKind c.as_slice.result.now) = cc in
+    let is : c.label_of_element.result ≡ label_of c.args.program.now.states (ElementKind c.in-Start.name.now) = cc in
     subst (λ s. IsLabel s c.label_of_element.result) (sym c.requires.program)
-    (subst (λ l. IsLabel c.args.program.now.states l) (sym is) (label-known c.args.program.now.states (ElementKind c.as_slice.result.now)))
+    (subst (λ l. IsLabel c.args.program.now.states l) (sym is) (label-known c.args.program.now.states (ElementKind c.in-Start.name.now)))
 
 pub leaf-requires-clause-label : goal.leaf-requires-clause-label
 leaf-requires-clause-label g c =
-    let is : c.label_of_attribute-label.result ≡ label_of c.args.program.now.states (AttributeKind c.as_slice-in-Attr.result.now) = cc in
-    subst (λ l. IsLabel c.args.program.now.states l) (sym is) (label-known c.args.program.now.states (AttributeKind c.as_slice-in-Attr.result.now))
+    let is : c.label_of_attribute-label.result ≡ label_of c.args.program.now.states (AttributeKind c.in-Attr.name.now) = cc in
+    subst (λ l. IsLabel c.args.program.now.states l) (sym is) (label-known c.args.program.now.states (AttributeKind c.in-Attr.name.now))
 
 pub returns-in-Start-clause-ok : goal.returns-in-Start-clause-ok
 returns-in-Start-clause-ok g c =
-    let is : c.label_of_element.result ≡ label_of c.args.program.now.states (ElementKind c.in-Start.name) = cc in
-    took_along g.M.Memo.states g.M.Memo.stands_for g.M.Memo.tells c.args.memo.now c.start.new.memo c.args.self.now c.start.new.self c.args.program.now.states c.start.result (Start c.in-Start.name) c.args.next.now c.in-Start.is
+    let is : c.label_of_element.result ≡ label_of c.args.program.now.states (ElementKind c.in-Start.name.now) = cc in
+    took_along g.M.Memo.states g.M.Memo.stands_for g.M.Memo.tells c.args.memo.now c.start.new.memo c.args.self.now c.start.new.self c.args.program.now.states c.start.result (Start c.in-Start.name.now) (event_of c.args.next) (ap event_of c.in-Start.is)
     (took_start g.M.Memo.states g.M.Memo.stands_for g.M.Memo.tells c.args.memo.now c.start.new.memo c.args.self.now c.start.new.self c.args.program.now.states c.start.result
-    c.in-Start.name c.label_of_element.result c.requires.program is c.start.ensures.ok)
+    c.in-Start.name.now c.label_of_element.result c.requires.program is c.start.ensures.ok)
 
 pub returns-in-Attr-clause-ok : goal.returns-in-Attr-clause-ok
 returns-in-Attr-clause-ok g c =
-    let is : c.label_of_attribute-label.result ≡ label_of c.args.program.now.states (AttributeKind c.in-Attr.name) = cc in
-    took_along g.M.Memo.states g.M.Memo.stands_for g.M.Memo.tells c.args.memo.now c.leaf.new.memo c.args.self.now c.leaf.new.self c.args.program.now.states c.leaf.result (Attr c.in-Attr.name c.in-Attr.value) c.args.next.now c.in-Attr.is
+    let is : c.label_of_attribute-label.result ≡ label_of c.args.program.now.states (AttributeKind c.in-Attr.name.now) = cc in
+    took_along g.M.Memo.states g.M.Memo.stands_for g.M.Memo.tells c.args.memo.now c.leaf.new.memo c.args.self.now c.leaf.new.self c.args.program.now.states c.leaf.result (Attr c.in-Attr.name.now c.in-Attr.value.now) (event_of c.args.next) (ap event_of c.in-Attr.is)
     (took_leaf g.M.Memo.states g.M.Memo.stands_for g.M.Memo.tells c.args.memo.now c.leaf.new.memo c.args.self.now c.leaf.new.self c.args.program.now.states c.leaf.result
-    (Some c.in-Attr.name) c.in-Attr.value c.as_slice-in-Attr-2.result.now [] c.label_of_attribute-label.result is c.as_slice-in-Attr-2.ensures.same refl c.leaf.ensures.ok)
+    (Some c.in-Attr.name.now) c.in-Attr.value.now c.in-Attr.value.now [] c.label_of_attribute-label.result is refl refl c.leaf.ensures.ok)
 
 pub returns-in-Text-clause-ok : goal.returns-in-Text-clause-ok
 returns-in-Text-clause-ok g c =
-    took_along g.M.Memo.states g.M.Memo.stands_for g.M.Memo.tells c.args.memo.now c.leaf-in-Text.new.memo c.args.self.now c.leaf-in-Text.new.self c.args.program.now.states c.leaf-in-Text.result (Text c.in-Text.text) c.args.next.now c.in-Text.is
+    took_along g.M.Memo.states g.M.Memo.stands_for g.M.Memo.tells c.args.memo.now c.leaf-in-Text.new.memo c.args.self.now c.leaf-in-Text.new.self c.args.program.now.states c.leaf-in-Text.result (Text c.in-Text.text.now) (event_of c.args.next) (ap event_of c.in-Text.is)
     (took_leaf g.M.Memo.states g.M.Memo.stands_for g.M.Memo.tells c.args.memo.now c.leaf-in-Text.new.memo c.args.self.now c.leaf-in-Text.new.self c.args.program.now.states c.leaf-in-Text.result
-    None c.in-Text.text c.as_slice-in-Text.result.now c.as_slice-in-Text-2.result.now 0 refl c.as_slice-in-Text.ensures.same c.as_slice-in-Text-2.ensures.same c.leaf-in-Text.ensures.ok)
+    None c.in-Text.text.now c.in-Text.text.now c.in-Text.text.now 0 refl refl refl c.leaf-in-Text.ensures.ok)
 
 pub returns-in-End-clause-ok : goal.returns-in-End-clause-ok
 returns-in-End-clause-ok g c =
-    took_along g.M.Memo.states g.M.Memo.stands_for g.M.Memo.tells c.args.memo.now c.end.new.memo c.args.self.now c.end.new.self c.args.program.now.states c.end.result End c.args.next.now c.in-End.is
+    took_along g.M.Memo.states g.M.Memo.stands_for g.M.Memo.tells c.args.memo.now c.end.new.memo c.args.self.now c.end.new.self c.args.program.now.states c.end.result End (event_of c.args.next) (ap event_of c.in-End.is)
     c.end.ensures.ok
