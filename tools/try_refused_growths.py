@@ -1,12 +1,14 @@
 #!/usr/bin/env python3
-"""Runs xpush serial with a refused allocation, one number a run, and looks at what stands behind it.
+"""Runs xpush with a refused allocation, one number a run, and looks at what stands behind it.
 
-    tools/try_refused_growths.py [--first N] [--step N] [--jobs N]
+    tools/try_refused_growths.py [--only NAME] [--first N] [--step N] [--jobs N]
 
-The feed adds, drops and filters. Whichever allocation is refused, the run has to end with status 5
-and a front of the output, or, where it can do without the allocation or has made its last before,
-with the whole output and its status. The script ends behind twelve whole runs in a row. Each run is one
-of 'rt try', which takes some seconds, so it runs by hand. The last line is 'N passed, M failed'.
+The runs are 'serial' on a feed that adds, drops and filters, 'make', and 'make' with words that are
+in no form ('usage'). Whichever allocation is refused, the run has to end with status 5 and a front
+of what it writes where none is refused, or, where it can do without the allocation or has made its
+last before, with all of it and its status. Each of them ends behind twelve whole runs in a row. Each
+try is one of 'rt try', which takes some seconds, so the script runs by hand. The last line is
+'N passed, M failed'.
 """
 import argparse
 import concurrent.futures
@@ -14,48 +16,65 @@ import pathlib
 import subprocess
 import sys
 
-FEED = "+/a\n+/a\n(a\n)a\n~1\n(a\n)a\n~1\n"
-OUTPUT = "+1\n+2\n2: 1 2\n~1 3\n3: 2\n! drop unknown\n"
-OUT_OF_MEMORY, REFUSED = 5, 1
+# for each name the words, the bytes that are read, the status of a whole run, and its text where that is known beforehand
+RUNS = {
+    "serial": (["serial"], "+/a\n+/a\n(a\n)a\n~1\n(a\n)a\n~1\n", 1, "+1\n+2\n2: 1 2\n~1 3\n3: 2\n! drop unknown\n"),
+    "make": (["make", "--seed", "1", "--filters=2", "--documents", "2"], "", 0, None),
+    "usage": (["make", "--seed", "1", "--filters=2", "--documents", "2", "--help"], "", 2, ""),
+}
+OUT_OF_MEMORY = 5
 MOST = 100_000
 WHOLE_IN_A_ROW = 12
+CRATE = pathlib.Path(__file__).resolve().parent.parent / "crates" / "xpush"
 
 
-def run(crate, number):
+def run(words, fed, refused):
     """The bytes that the run wrote, and its status."""
-    done = subprocess.run(
-        ["rt", "try", "--fail-alloc", str(number), "--", "serial"], cwd=crate, input=FEED, capture_output=True, text=True
-    )
+    command = ["rt", "try"] + refused + ["--"] + words
+    done = subprocess.run(command, cwd=CRATE, input=fed, capture_output=True, text=True)
     return done.stdout, done.returncode
 
 
-def judged(crate, number):
+def judged(words, fed, wanted, number):
     """Whether the run kept its promise, and whether it was whole."""
-    text, status = run(crate, number)
-    whole = text == OUTPUT and status == REFUSED
-    cut_short = OUTPUT.startswith(text) and status == OUT_OF_MEMORY
+    text, status = run(words, fed, ["--fail-alloc", str(number)])
+    whole = (text, status) == wanted
+    cut_short = wanted[0].startswith(text) and status == OUT_OF_MEMORY
     if not whole and not cut_short:
-        print("allocation %d: status %d behind %r" % (number, status, text))
+        print("%s, allocation %d: status %d behind %r" % (" ".join(words), number, status, text))
     return whole or cut_short, whole
 
 
-def main():
-    here = pathlib.Path(__file__).resolve().parent.parent
-    parser = argparse.ArgumentParser(description=__doc__, formatter_class=argparse.RawDescriptionHelpFormatter)
-    parser.add_argument("--first", type=int, default=1)
-    parser.add_argument("--step", type=int, default=1)
-    parser.add_argument("--jobs", type=int, default=1)
-    options = parser.parse_args()
+def tried(name, numbers, jobs):
+    """How many runs kept their promise, and how many did not."""
+    words, fed, ended, known = RUNS[name]
+    text, status = run(words, fed, [])
+    if status != ended or known not in (None, text):
+        print("%s: status %d behind %r, with nothing refused" % (name, status, text))
+        return 0, 1
     passed = failed = in_a_row = 0
-    numbers = range(options.first, MOST, options.step)
-    with concurrent.futures.ThreadPoolExecutor(options.jobs) as pool:
-        for start in range(0, len(numbers), options.jobs):
-            results = pool.map(lambda number: judged(here / "crates" / "xpush", number), numbers[start : start + options.jobs])
+    with concurrent.futures.ThreadPoolExecutor(jobs) as pool:
+        for start in range(0, len(numbers), jobs):
+            results = pool.map(lambda number: judged(words, fed, (text, status), number), numbers[start : start + jobs])
             for kept, whole in results:
                 passed, failed = passed + kept, failed + (not kept)
                 in_a_row = in_a_row + 1 if whole else 0
             if in_a_row >= WHOLE_IN_A_ROW:
                 break
+    print("%s: %d passed, %d failed" % (name, passed, failed))
+    return passed, failed
+
+
+def main():
+    parser = argparse.ArgumentParser(description=__doc__, formatter_class=argparse.RawDescriptionHelpFormatter)
+    parser.add_argument("--only", choices=sorted(RUNS))
+    parser.add_argument("--first", type=int, default=1)
+    parser.add_argument("--step", type=int, default=1)
+    parser.add_argument("--jobs", type=int, default=1)
+    options = parser.parse_args()
+    numbers = range(options.first, MOST, options.step)
+    counts = [tried(name, numbers, options.jobs) for name in RUNS if options.only in (None, name)]
+    passed, failed = sum(count[0] for count in counts), sum(count[1] for count in counts)
     print("%d passed, %d failed" % (passed, failed))
     return 1 if failed or not passed else 0
 

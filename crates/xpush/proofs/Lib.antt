@@ -9,7 +9,6 @@ pub mod FeedRefusals
 pub mod FeedTaking
 pub mod Fronts
 pub mod Lines
-pub mod OptionReading
 pub mod Reading
 pub mod Saying
 pub mod Sizes

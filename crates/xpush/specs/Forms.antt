@@ -1,13 +1,10 @@
 -- The forms of the words of the command line.
-use Rattle.std.specs.Prelude.{◌≡◌, ℕ, List, [], ◌∷◌, map, codes, Option, Some, None, option_map, option_and_then, bytes_eq, if◌then◌else◌, string_bytes}
-use Rattle.std.specs.declared.string.String.{String}
-use Rattle.xpush.specs.OptionWords.{Rule, values_in}
+use Rattle.std.specs.Prelude.{◌≡◌, ℕ, Bool, true, false, List, [], ◌∷◌, codes, Option, Some, None, IsTrue, Result, Ok, Err, option_and_then, bytes_eq, if◌then◌else◌}
+use Rattle.px_options.specs.OptionWords.{Rule, values_in}
+use Rattle.px_options.specs.declared.OptionsError.{OptionsError}
+use Rattle.px_options.specs.declared.OptionsError.TheVariants.{Usage, Memory}
 use Rattle.xpush.specs.declared.words.Command.{Command}
 use Rattle.xpush.specs.declared.words.Command.TheVariants as command
-
--- the words as bytes
-abbrev pub texts : {A : Type 0} → List (String A) → List (List ℕ)
-texts = map string_bytes
 
 -- what is asked for
 pub data Form : Type 0 where
@@ -51,6 +48,11 @@ form_of (name ∷ words) =
     else if bytes_eq name (codes "serial") then serial_form words
     else filter_form name words
 
+-- the words name a command with options, which take memory to be read
+abbrev pub have_options : List (List ℕ) → Bool
+have_options [] = false
+have_options (name ∷ words) = bytes_eq name (codes "make")
+
 -- the form that a command is
 abbrev pub form : Command → Form
 form (command.Match filter) = Matches filter.now
@@ -58,6 +60,8 @@ form (command.Show filter) = Shows filter.now
 form (command.Make seed filters documents) = Makes seed filters documents
 form command.Serial = Serves
 
--- the command is what the words ask for
-abbrev pub Says : List (List ℕ) → Option Command → Type 0
-Says words found = option_map form found ≡ form_of words
+-- The command is what was said, or nothing was. For want of memory, which only options take, it is not known.
+abbrev pub IsSaid : Option Form → Bool → Result Command OptionsError → Type 0
+IsSaid said has_options (Ok command) = Some (form command) ≡ said
+IsSaid said has_options (Err Usage) = said ≡ None
+IsSaid said has_options (Err Memory) = IsTrue has_options

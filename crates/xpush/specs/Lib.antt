@@ -2,9 +2,7 @@ pub mod Forms
 pub mod Fronts
 pub mod Answers
 pub mod Documents
-pub mod OptionAnswers
 pub mod OptionRows
-pub mod OptionWords
 pub mod Stops
 pub mod Showing
 pub mod Replying

@@ -10,7 +10,6 @@ mod document;
 mod filtering;
 mod making;
 mod matching;
-mod options;
 mod outgoing;
 mod output;
 pub mod plain;

@@ -1,9 +1,10 @@
 //! The commands that need no runtime.
 
-ghost use Rattle.std.specs.Prelude.{◌≡◌, ◌≤◌, ◌↔◌, IfSome, IsNone, IsTrue};
+ghost use Rattle.std.specs.Prelude.{◌≡◌, ◌≤◌, ◌⊎◌, IfSome, IsNone, IsTrue};
 ghost use Rattle.px_io.specs.Faults.{Rose};
+ghost use Rattle.px_options.specs.OptionAnswers.{texts};
 ghost use Rattle.xpush.specs.Answers.{Answers, WritesFront, WritesWhole, is_finished, is_cut_short};
-ghost use Rattle.xpush.specs.Forms.{form, form_of, texts};
+ghost use Rattle.xpush.specs.Forms.{form, form_of, have_options};
 
 use crate::making::make_feed;
 use crate::matching::match_document;
@@ -12,22 +13,24 @@ use crate::showing::show_filter;
 use crate::words::{Command, command_of};
 use px_feed::Status;
 use px_io::{Sink, Source};
+use px_options::OptionsError;
 use std::alloc::Global;
 
 /// Runs the command that the words are, from the source to the sink, and answers its status.
 ///
 /// At `Done` and `Refused` the bytes written are the whole output, and at `WriteFault` and
 /// `Memory` its front. After a read fault nothing is written, but for `serial`, which has written
-/// the lines of the items that are whole in the bytes read. Words that are in no form read and
-/// write nothing.
+/// the lines of the items that are whole in the bytes read. Words that are in no form are `Usage`,
+/// but for want of memory, and read and write nothing.
 pub fn plain<S: Source, K: Sink>(
     alloc: Global,
     words: &[String],
     source: &mut S,
     sink: &mut K,
 ) -> Status
-    ensures usage { (result ≡ Status.Usage) ↔ IsNone (form_of (texts words.now)) }
-    ensures untouched { result ≡ Status.Usage → (S.left source.new ≡ S.left source.old) × (K.held sink.new ≡ K.held sink.old) }
+    ensures usage { result ≡ Status.Usage → IsNone (form_of (texts words.now)) }
+    ensures no_form { IsNone (form_of (texts words.now)) → (result ≡ Status.Usage) ⊎ (IsTrue (have_options (texts words.now)) × (result ≡ Status.Memory)) }
+    ensures untouched { IsNone (form_of (texts words.now)) → (S.left source.new ≡ S.left source.old) × (K.held sink.new ≡ K.held sink.old) }
     ensures output { IsTrue (is_finished result) → IfSome (form_of (texts words.now)) (λ said.
         Answers said (S.left source.old) (S.left source.new) (K.held sink.old) (K.held sink.new) result) }
     ensures front { IsTrue (is_cut_short result) → IfSome (form_of (texts words.now)) (λ said.
@@ -39,9 +42,10 @@ pub fn plain<S: Source, K: Sink>(
     ensures source_counts { S.faults source.old ≤ S.faults source.new }
     ensures sink_counts { K.faults sink.old ≤ K.faults sink.new }
 {
-    match command_of(words) {
-        Some(command) => run_command(alloc, command, source, sink),
-        None => Status::Usage,
+    match command_of(alloc, words) {
+        Ok(command) => run_command(alloc, command, source, sink),
+        Err(OptionsError::Usage) => Status::Usage,
+        Err(OptionsError::Memory) => Status::Memory,
     }
 }
 

@@ -1,9 +1,10 @@
 //! The top call: every command, with a runtime for those that need one.
 
-ghost use Rattle.std.specs.Prelude.{◌≡◌, ◌≤◌, ◌↔◌, IfSome, IsNone, IsTrue};
+ghost use Rattle.std.specs.Prelude.{◌≡◌, ◌≤◌, ◌⊎◌, IfSome, IsNone, IsTrue};
 ghost use Rattle.px_io.specs.Faults.{Rose};
+ghost use Rattle.px_options.specs.OptionAnswers.{texts};
 ghost use Rattle.xpush.specs.Answers.{Answers, WritesFront, WritesWhole, is_finished, is_cut_short};
-ghost use Rattle.xpush.specs.Forms.{form_of, texts};
+ghost use Rattle.xpush.specs.Forms.{form_of, have_options};
 
 use crate::plain::plain;
 use px_feed::Status;
@@ -24,8 +25,9 @@ pub fn run<R: Threads + Wait + Sync, S: Source, K: Sink, G: Gate>(
     sink: &mut K,
     _gate: &G,
 ) -> Status
-    ensures usage { (result ≡ Status.Usage) ↔ IsNone (form_of (texts words.now)) }
-    ensures untouched { result ≡ Status.Usage → (S.left source.new ≡ S.left source.old) × (K.held sink.new ≡ K.held sink.old) }
+    ensures usage { result ≡ Status.Usage → IsNone (form_of (texts words.now)) }
+    ensures no_form { IsNone (form_of (texts words.now)) → (result ≡ Status.Usage) ⊎ (IsTrue (have_options (texts words.now)) × (result ≡ Status.Memory)) }
+    ensures untouched { IsNone (form_of (texts words.now)) → (S.left source.new ≡ S.left source.old) × (K.held sink.new ≡ K.held sink.old) }
     ensures output { IsTrue (is_finished result) → IfSome (form_of (texts words.now)) (λ said.
         Answers said (S.left source.old) (S.left source.new) (K.held sink.old) (K.held sink.new) result) }
     ensures front { IsTrue (is_cut_short result) → IfSome (form_of (texts words.now)) (λ said.

@@ -1,9 +1,11 @@
 //! Which command the words of the command line are.
 
-ghost use Rattle.std.specs.Prelude.{◌≡◌, option_map};
-ghost use Rattle.xpush.specs.Forms.{Says, filter_form, form, make_form, serial_form, texts};
+ghost use Rattle.std.specs.Prelude.{◌≡◌, false, true, option_map};
+ghost use Rattle.px_options.specs.OptionAnswers.{texts};
+ghost use Rattle.xpush.specs.Forms.{IsSaid, filter_form, form, form_of, have_options, make_form, serial_form};
 
-use crate::options::{CommandOption, read_options};
+use px_options::{CommandOption, OptionsError, read_options};
+use std::alloc::Global;
 
 /// A command that needs no runtime, with what it is asked.
 #[derive(Clone, Copy, Debug, Drop)]
@@ -48,17 +50,30 @@ const MAKE_OPTIONS: [CommandOption; 3] = [
     },
 ];
 
-/// The command that the words are, if they are in a form.
-pub fn command_of(words: &[String]) -> Option<Command<'_>>
-    ensures { Says (texts words.now) result }
+/// The command that the words are, if they are in a form: else `Usage`, but where there was no
+/// memory to read options.
+pub fn command_of(alloc: Global, words: &[String]) -> Result<Command<'_>, OptionsError>
+    ensures { IsSaid (form_of (texts words.now)) (have_options (texts words.now)) result }
 {
-    let (name, rest) = words.split_first()?;
+    let Some((name, rest)) = words.split_first() else {
+        return Err(OptionsError::Usage);
+    };
     if name.as_str() == "make" {
-        make_command(rest)
+        make_command(alloc, rest)
     } else if name.as_str() == "serial" {
-        serial_command(rest)
+        or_usage(serial_command(rest))
     } else {
-        filter_command(name.as_str(), rest)
+        or_usage(filter_command(name.as_str(), rest))
+    }
+}
+
+/// The command, if there is one.
+fn or_usage(command: Option<Command<'_>>) -> Result<Command<'_>, OptionsError>
+    ensures { IsSaid (option_map form command.entry) false result }
+{
+    match command {
+        Some(command) => Ok(command),
+        None => Err(OptionsError::Usage),
     }
 }
 
@@ -80,19 +95,21 @@ fn filter_command<'a>(name: &str, words: &'a [String]) -> Option<Command<'a>>
 }
 
 /// The command `make` with the options that the words are.
-fn make_command(words: &[String]) -> Option<Command<'_>>
-    ensures { option_map form result ≡ make_form (texts words.now) }
+fn make_command(alloc: Global, words: &[String]) -> Result<Command<'_>, OptionsError>
+    ensures { IsSaid (make_form (texts words.now)) true result }
 {
     let mut values = [0; 3];
-    if !read_options(&MAKE_OPTIONS, words, &mut values) {
-        return None;
+    match read_options(alloc, &MAKE_OPTIONS, words, &mut values) {
+        Ok(()) => {
+            let [seed, filters, documents] = values;
+            Ok(Command::Make {
+                seed,
+                filters,
+                documents,
+            })
+        }
+        Err(error) => Err(error),
     }
-    let [seed, filters, documents] = values;
-    Some(Command::Make {
-        seed,
-        filters,
-        documents,
-    })
 }
 
 /// The command `serial`, which has no words behind its name.
