@@ -1,5 +1,5 @@
 -- Bytes that are whole lines and a line that has begun, and more bytes behind them.
-use Rattle.std.proofs.Common.{◌≡◌, ℕ, zero, suc, ◌+◌, ◌-◌, ◌<◌, ◌≤◌, min, Bool, true, false, not, ◌&&◌, List, [], ◌∷◌, ◌++◌, ◌==◌, length, take, drop, get_or, refl, ap, sym, ◌∙◌, subst, append_assoc, length-append, length-drop, add-one, arith, ◌⊎◌, inl, inr, IsUtf8}
+use Rattle.std.proofs.Common.{◌≡◌, ℕ, zero, suc, ◌+◌, ◌-◌, ◌<◌, ◌≤◌, ◌^◌, min, Bool, true, false, not, ◌&&◌, List, [], ◌∷◌, ◌++◌, ◌==◌, length, take, drop, get_or, refl, ap, sym, ◌∙◌, subst, append_assoc, length-append, length-drop, add-one, arith, ◌⊎◌, inl, inr, IsUtf8}
 use Rattle.std.specs.List.{copy_within}
 use Rattle.std.specs.Cmp.Derive.{both_true}
 use Rattle.std.proofs.lemmas.Bool.{and_parts, cases_lt}
@@ -226,3 +226,12 @@ min_take n bytes = on (cases_lt (length bytes) n)
 
 pub none_ready : (bytes : List ℕ) (at whole : ℕ) → at ≡ 0 → whole ≡ 0 → take (whole - at) (drop at bytes) ≡ []
 none_ready bytes at whole z w = rw (z, w) refl
+
+-- all bytes of a part are kept or counted
+pub kept_count : (bytes part more : List ℕ) (whole lost room end : ℕ) → whole ≤ length bytes → end ≡ min room (length part) → more ≡ bytes ++ take end part → length bytes - whole + lost + length part < 2 ^ 64 →
+    length more - whole + (lost + (length part - end)) < 2 ^ 64
+kept_count bytes part more whole lost room end w e m l =
+    let low : end ≤ length part = grind arith in
+    let n = ap length m ∙ length-append bytes (take end part) in
+    let t = length-take-le end part low in
+    omega arith

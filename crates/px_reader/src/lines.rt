@@ -1,7 +1,7 @@
 //! Whole lines, out of pieces.
 
 ghost use Rattle.px_reader.specs.declared.lines.PushFault.TheVariants.{Memory};
-ghost use Rattle.std.specs.Prelude.{◌≡◌, ◌++◌, ◌≤◌, ◌<◌, ◌+◌, ◌-◌, [], true, false, length, take, drop, IfOk, OnOk, OnErr, IsTrue, IsFalse, IsUtf8};
+ghost use Rattle.std.specs.Prelude.{◌≡◌, ◌++◌, ◌≤◌, ◌<◌, ◌+◌, ◌-◌, ◌^◌, [], true, false, length, take, drop, IfOk, OnOk, OnErr, IsTrue, IsFalse, IsUtf8};
 ghost use Rattle.px_reader.specs.Lines.{is_whole, has_no_feed, is_ended};
 
 use memchr::{memchr, memrchr};
@@ -40,13 +40,14 @@ pub struct Lines {
     is_text: bool,
     ghost ordered: { at ≤ whole },
     ghost within: { whole ≤ length bytes.items },
+    ghost counted: { length bytes.items - whole + lost < 2 ^ 64 },
     ghost ended: { is_whole (take (whole - at) (drop at bytes.items)) ≡ true },
     ghost begun: { has_no_feed (drop whole bytes.items) ≡ true },
     ghost text: { is_text ≡ true → ∥ IsUtf8 (take (whole - at) (drop at bytes.items)) ∥₁ },
 }
 
 impl Lines {
-    ghost use Rattle.std.specs.Prelude.{List, ℕ, IfErr, ◌^◌};
+    ghost use Rattle.std.specs.Prelude.{List, ℕ, IfErr};
     ghost use Rattle.px_reader.specs.Buffers.{ready, begun_size, piece, IsUnread, TakesFirst, Adds, LosesLine};
     ghost use Rattle.px_reader.specs.Scanned.{line_to};
 
@@ -135,7 +136,6 @@ impl Lines {
 
     /// How many bytes the line has that has begun.
     pub fn begun_size(&self) -> u64
-        requires { begun_size self.now < 2 ^ 64 }
         ensures size { result ≡ begun_size self.now }
         ensures all { (unread : List ℕ) → ready self.now ≡ [] → IsUnread self.now unread → result ≡ length unread }
     {
@@ -182,7 +182,7 @@ impl Lines {
     /// Keeps a part of the line that has begun.
     fn keep(&mut self, part: &[u8]) -> Result<(), AllocError>
         requires feed { has_no_feed part.now ≡ true }
-        requires room { self.old.lost + length part.now < 2 ^ 64 }
+        requires room { begun_size self.old + length part.now < 2 ^ 64 }
         ensures same { (self.new.at ≡ self.old.at) × (self.new.whole ≡ self.old.whole) × (self.new.is_text ≡ self.old.is_text) }
         ensures kept { OnOk result (self.new.bytes.items ≡ self.old.bytes.items ++ take (1_048_579 - (length self.old.bytes.items - self.old.whole)) part.now) }
         ensures lost { OnOk result (self.new.lost ≡ self.old.lost + (length part.now - (1_048_579 - (length self.old.bytes.items - self.old.whole)))) }

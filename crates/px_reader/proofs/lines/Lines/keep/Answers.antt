@@ -1,13 +1,13 @@
 -- More bytes of the line that has begun.
 use Rattle.std.proofs.Common.{◌≡◌, ◌-◌, ◌++◌, length, take, ap, ◌∙◌, subst, sym, arith}
-use Rattle.px_reader.proofs.Buffered.{Cut, cut_more, feedless_front, min_take}
+use Rattle.px_reader.proofs.Buffered.{Cut, cut_more, feedless_front, min_take, kept_count}
 use Rattle.px_reader.proofs.lines.Lines.keep.Goals as goal
 
 pub invariant_of-self : goal.invariant_of-self
 invariant_of-self c =
     let old = c.args.self.now in
     let k = subst (λ bs. Cut bs old.at old.whole old.is_text) (sym c.in_err-extend_from_slice.ensures.items) (record { ordered = old.ordered; within = old.within; ended = old.ended; begun = old.begun; text = old.text }) in
-    record { ordered = k.ordered; within = k.within; ended = k.ended; begun = k.begun; text = k.text }
+    record { ordered = k.ordered; within = k.within; counted = (let e = ap length c.in_err-extend_from_slice.ensures.items in let l = old.counted in omega arith); ended = k.ended; begun = k.begun; text = k.text }
 
 pub invariant_of-self-2 : goal.invariant_of-self-2
 invariant_of-self-2 c =
@@ -15,7 +15,7 @@ invariant_of-self-2 c =
     let part = c.args.part.now in
     let k = cut_more old.bytes.items (take c.min-end.result part) c.extend_from_slice.new.self.items old.at old.whole old.is_text c.in_ok-extend_from_slice.ensures.items
     (feedless_front c.min-end.result part c.requires.feed) (record { ordered = old.ordered; within = old.within; ended = old.ended; begun = old.begun; text = old.text }) in
-    record { ordered = k.ordered; within = k.within; ended = k.ended; begun = k.begun; text = k.text }
+    record { ordered = k.ordered; within = k.within; counted = kept_count old.bytes.items part c.extend_from_slice.new.self.items old.whole old.lost c.saturating_sub-room.result c.min-end.result old.within c.min-end.ensures c.in_ok-extend_from_slice.ensures.items c.requires.room; ended = k.ended; begun = k.begun; text = k.text }
 
 pub returns-clause-kept : goal.returns-clause-kept
 returns-clause-kept c =

@@ -36,7 +36,7 @@ invariant_of-self-2 c =
     let whole : is_whole bytes ≡ true = ap is_whole joined ∙ ended_whole mid.bytes.items c.args.piece.now c.in-Some.feed found.0.high found.1 in
     let n : c.len-self.result ≡ length bytes = omega arith in
     let k = cut_whole bytes mid.at c.len-self.result c.are_text-self.result c.settle.ensures.front.0 n whole (λ t. subst IsUtf8 c.as_slice.ensures.value (c.are_text-self.ensures.text t)) in
-    record { ordered = k.ordered; within = k.within; ended = k.ended; begun = k.begun; text = k.text }
+    record { ordered = k.ordered; within = k.within; counted = (let l = mid.counted in let m : c.len-self.result ≡ length bytes = n in omega arith); ended = k.ended; begun = k.begun; text = k.text }
 
 pub keep-requires-2-clause-feed : goal.keep-requires-2-clause-feed
 keep-requires-2-clause-feed c =

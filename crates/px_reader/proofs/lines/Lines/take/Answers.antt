@@ -10,7 +10,7 @@ invariant_of-self c =
     let old = c.args.self.now in
     let k = taken_piece old.bytes.items old.at c.args.end old.whole old.is_text (record { ordered = old.ordered; within = old.within; ended = old.ended; begun = old.begun; text = old.text })
     c.requires.within.0 c.requires.within.1 c.requires.line in
-    record { ordered = k.cut.ordered; within = k.cut.within; ended = k.cut.ended; begun = k.cut.begun; text = k.cut.text }
+    record { ordered = k.cut.ordered; within = k.cut.within; counted = old.counted; ended = k.cut.ended; begun = k.cut.begun; text = k.cut.text }
 
 pub returns-clause-unread : goal.returns-clause-unread
 returns-clause-unread c = λ unread u.
