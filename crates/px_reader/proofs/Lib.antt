@@ -32,3 +32,4 @@ pub mod ReadOn
 pub mod Plainness
 pub mod TextScans
 pub mod AttributeScans
+pub mod Recording

@@ -15,3 +15,5 @@ pub mod Scanned
 pub mod Scanning
 pub mod ReadingOn
 pub mod Plain
+pub mod Records
+pub mod Recorded

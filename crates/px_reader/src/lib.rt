@@ -4,7 +4,8 @@
 //! is fed the bytes in any pieces and gives the events; a [`Doc`] holds bytes that spell a tree.
 //!
 //! [`Lines`] joins pieces to whole lines, and a [`Scanner`] judges each where it lies: what it brings is seen as a
-//! [`Happening`], an event that borrows its bytes. No command stands on them yet.
+//! [`Happening`], an event that borrows its bytes. A [`Recorder`] takes a document line by line so, and keeps its
+//! events.
 #![tactic(auto)]
 
 mod cuts;
@@ -19,6 +20,7 @@ mod lines;
 mod machine;
 mod name_stack;
 mod reader;
+mod recorder;
 mod scanner;
 
 pub use cuts::{split_at_space, without_end};
@@ -31,6 +33,7 @@ pub use laws::{machine_is_right, verdicts_are_one};
 pub use lines::{Lines, PushFault};
 pub use name_stack::NameStack;
 pub use reader::Reader;
+pub use recorder::Recorder;
 pub use scanner::{JudgedLine, Own, Place, QuickLine, Scanner, Seen, Told};
 
 #[cfg(test)]

@@ -95,6 +95,8 @@ impl Told {
         ensures rest { (text name attribute value : List ℕ) →
             told_events self.old text name attribute value ≡ seen_events result text name attribute value ++ told_events self.new text name attribute value }
         ensures nothing { result ≡ Seen.Nothing → (self.new.text ≡ false) × (self.new.own ≡ Own.Nothing) }
+        ensures text { self.new.text ≡ false }
+        ensures own { self.old.text ≡ false → self.new.own ≡ Own.Nothing }
     {
         if self.text {
             self.text = false;
