@@ -11,16 +11,16 @@ use Rattle.px_feed.specs.declared.item.Item.TheVariants.{Document}
 use Rattle.px_reader.specs.Spelling.{Spells}
 use Rattle.px_reader.specs.Verdicts.{IsFine, HasVerdict, Judges, IsTree}
 use Rattle.px_reader.specs.declared.fault.DocKind.TheVariants.{NotHere, NotUtf8, LineLong, TooDeep, TooManyAttributes, TooBig, Truncated}
-use Rattle.px_reader.proofs.Closing.{read_judged}
+use Rattle.px_reader.proofs.Recording.{recorded_fine}
 use Rattle.px_reader.proofs.LineCuts.{concat-lines_of, ended_is, lines_push, lines_whole, open_line, whole_push, take_lines, sizes}
 use Rattle.px_feed.specs.declared.fault.Failure.{Failure}
-use Rattle.px_feed.specs.declared.gathering.Gathering.{Gathering}
+use Rattle.px_reader.specs.declared.recorder.Recorder.{Recorder}
 use Rattle.px_feed.specs.declared.item.Item.{Item as Given}
 use Rattle.px_feed.specs.declared.line.FeedKind.TheVariants.{Doc, FeedLong}
 use Rattle.px_feed.specs.declared.outside.Effect.TheVariants.{Nothing, Gives as GivesItem, Begins as BeginsDocument}
 use Rattle.px_feed.specs.Cutting.{Leads, Stands, Standing, Cuts}
 use Rattle.px_feed.specs.Effects.{IsItem, Does, IsFit, DoesFit}
-use Rattle.px_feed.specs.Gathered.{HasGathered, IsStillOpen}
+use Rattle.px_feed.specs.Recordings.{HasRecorded, IsStillOpen}
 use Rattle.px_feed.specs.Items.{Item, Showing, Stop, IsOpen, between, in_document, Outside, Skips, Brings, Starts, Misplaced, AtEnd, AtFault, outside, ShowsOutside, HasNone, IsWhole, Begins, Gives, bytes_in, most_bytes}
 use Rattle.px_feed.proofs.Leading.{Opening, leads_skip, leads_bring, leads_document, ended, truncates, opening_push, goes_on_all, is_whole_document}
 
@@ -90,12 +90,12 @@ does_begin Starts d = refl
 does_begin Misplaced d = absurd d
 
 -- between documents, behind one line more
-outside_again : (document : Gathering) (before after : List (List ℕ)) (given more : List Item) → Stands document before [] given → Leads after more → Standing document after more
+outside_again : (document : Recorder) (before after : List (List ℕ)) (given more : List Item) → Stands document before [] given → Leads after more → Standing document after more
 outside_again document before after given more s leads = record {
   before = after;
   inside = [];
   lines_are = sym (append-nil after);
-  stands = record { leads = leads; whole = refl; gathered = s.gathered; begins = λ line rest e. absurd (cc); still_open = s.still_open };
+  stands = record { leads = leads; whole = refl; recorded = s.recorded; begins = λ line rest e. absurd (cc); still_open = s.still_open };
 }
 
 -- what is known of the lines behind one that does nothing, or gives an item
@@ -112,11 +112,11 @@ bring_leads before line given item leads size (fit, does) =
     let fine = fine_outside before line size fit (λ m. let f : Brings brought ≡ Misplaced = sym e ∙ m in absurd (cc)) in
     (brought, is, leads_bring before line given brought leads fine e)
 
-pub stands_skip : (document : Gathering) (before : List (List ℕ)) (line : List ℕ) (given : List Item) → Stands document before [] given →
+pub stands_skip : (document : Recorder) (before : List (List ℕ)) (line : List ℕ) (given : List Item) → Stands document before [] given →
     bytes_in before + length line ≤ most_bytes → DoesFit (Ok Nothing) line → Standing document (before ++ line ∷ []) given
 stands_skip document before line given s size does = outside_again document before (before ++ line ∷ []) given given s (skip_leads before line given s.leads size does)
 
-pub stands_bring : (document : Gathering) (before : List (List ℕ)) (line : List ℕ) (given : List Item) (item : Given) → Stands document before [] given →
+pub stands_bring : (document : Recorder) (before : List (List ℕ)) (line : List ℕ) (given : List Item) (item : Given) → Stands document before [] given →
     bytes_in before + length line ≤ most_bytes → DoesFit (Ok (GivesItem item)) line →
     (brought : Item) × IsItem item brought × Standing document (before ++ line ∷ []) (given ++ brought ∷ [])
 stands_bring document before line given item s size does =
@@ -129,25 +129,26 @@ begins_here before line size (fit, does) =
     record { fine = fine_outside before line size fit (λ m. let f : Starts ≡ Misplaced = sym e ∙ m in absurd (cc)); starts = e }
 
 -- no line of the document so far has a fault
-pub fine_inside : (document : Gathering) (before : List (List ℕ)) (inside : List ℕ) (given : List Item) → Stands document before inside given →
+pub fine_inside : (document : Recorder) (before : List (List ℕ)) (inside : List ℕ) (given : List Item) → Stands document before inside given →
     (k : ℕ) → k < length (lines_of inside) → IsFine (lines_of inside) k
-fine_inside document before inside given s = (read_judged document.reader inside s.gathered.given s.gathered.read s.whole).fine
+fine_inside document before inside given s =
+    subst (λ bs. (k : ℕ) → k < length (lines_of bs) → IsFine (lines_of bs) k) s.recorded.bytes_are (recorded_fine document)
 
 -- the first line of the document that goes on
-pub opening : (document : Gathering) (before : List (List ℕ)) (inside line : List ℕ) (rest : List (List ℕ)) (given : List Item) → Stands document before inside given →
+pub opening : (document : Recorder) (before : List (List ℕ)) (inside line : List ℕ) (rest : List (List ℕ)) (given : List Item) → Stands document before inside given →
     (inside ≡ [] → Begins before line) → Opening before (lines_of inside ++ line ∷ rest)
 opening document before inside line rest given s one = opening_push before (lines_of inside) line rest (λ e. one (no_line inside e)) s.begins
 
 -- no document has begun
-pub stands_outside : (document : Gathering) (lines : List (List ℕ)) (given : List Item) → Standing document lines given → length document.bytes.items ≡ 0 → Stands document lines [] given
+pub stands_outside : (document : Recorder) (lines : List (List ℕ)) (given : List Item) → Standing document lines given → length document.bytes.items ≡ 0 → Stands document lines [] given
 stands_outside document lines given s none =
-    let empty : s.inside ≡ [] = nil_from_length s.inside (ap length (sym s.stands.gathered.bytes_are) ∙ none) in
+    let empty : s.inside ≡ [] = nil_from_length s.inside (ap length (sym s.stands.recorded.bytes_are) ∙ none) in
     let same : s.before ≡ lines = sym (s.lines_are ∙ ap (λ bs. s.before ++ lines_of bs) empty ∙ append-nil s.before) in
     subst (λ ls. Stands document ls [] given) same (subst (λ bs. Stands document s.before bs given) empty s.stands)
 
 -- a document has begun
-pub has_begun : (document : Gathering) (before : List (List ℕ)) (inside : List ℕ) (given : List Item) → Stands document before inside given → 0 < length document.bytes.items → inside ≡ [] → ⊥
-has_begun document before inside given s some e = let n : length document.bytes.items ≡ 0 = ap length (s.gathered.bytes_are ∙ e) in omega arith
+pub has_begun : (document : Recorder) (before : List (List ℕ)) (inside : List ℕ) (given : List Item) → Stands document before inside given → 0 < length document.bytes.items → inside ≡ [] → ⊥
+has_begun document before inside given s some e = let n : length document.bytes.items ≡ 0 = ap length (s.recorded.bytes_are ∙ e) in omega arith
 
 -- lines up to the last, and one more
 pub open_more : (lines : List (List ℕ)) (line : List ℕ) (j : ℕ) → ((j : ℕ) (root : Root) → j ≤ length lines → Spells (take j lines) root → ⊥) →
@@ -162,13 +163,13 @@ open_more lines line j still last root l spells = on (place j (length lines) (rw
     on (inr m) = last root (subst (λ ls. Spells ls root) (take_all j (lines ++ line ∷ []) (rw length_push m)) spells)
 
 -- the document goes on behind the line
-pub stands_on : (old new : Gathering) (before : List (List ℕ)) (inside line : List ℕ) (given : List Item) → Stands old before inside given → is_ended line ≡ true →
-    (inside ≡ [] → Begins before line) → HasGathered new (inside ++ line) → IsStillOpen new → Standing new ((before ++ lines_of inside) ++ line ∷ []) given
-stands_on old new before inside line given s ends one gathered still = record {
+pub stands_on : (old new : Recorder) (before : List (List ℕ)) (inside line : List ℕ) (given : List Item) → Stands old before inside given → is_ended line ≡ true →
+    (inside ≡ [] → Begins before line) → HasRecorded new (inside ++ line) → IsStillOpen new → Standing new ((before ++ lines_of inside) ++ line ∷ []) given
+stands_on old new before inside line given s ends one known still = record {
   before = before;
   inside = inside ++ line;
   lines_are = append_assoc before (lines_of inside) (line ∷ []) ∙ ap (λ ls. before ++ ls) (sym same);
-  stands = record { leads = s.leads; whole = whole_more inside line ends; gathered = gathered; begins = begins; still_open = open_still };
+  stands = record { leads = s.leads; whole = whole_more inside line ends; recorded = known; begins = begins; still_open = open_still };
 }
   where
     same : lines_of (inside ++ line) ≡ lines_of inside ++ line ∷ []
@@ -184,26 +185,26 @@ stands_on old new before inside line given s ends one gathered still = record {
     open_still : (j : ℕ) (root : Root) → j ≤ length (lines_of (inside ++ line)) → Spells (take j (lines_of (inside ++ line))) root → ⊥
     open_still j root l spells =
         open_more (lines_of inside) line j s.still_open
-        (λ root spells. still (inside ++ line) gathered (whole_more inside line ends) root (subst (λ ls. Spells ls root) (sym same) spells)) root
+        (λ root spells. still root (subst (λ ls. Spells ls root) (sym (ap lines_of known.bytes_are ∙ same)) spells)) root
         (subst (λ ls. j ≤ length ls) same l) (subst (λ ls. Spells (take j ls) root) same spells)
 
-nothing_open : (old : Gathering) (before : List (List ℕ)) (inside : List ℕ) (given : List Item) → Stands old before inside given →
+nothing_open : (old : Recorder) (before : List (List ℕ)) (inside : List ℕ) (given : List Item) → Stands old before inside given →
     (j : ℕ) (root : Root) → j ≤ 0 → Spells (take j []) root → ⊥
 nothing_open old before inside given s zero root l spells = s.still_open 0 root (omega arith) spells
 nothing_open old before inside given s (suc j) root l spells = omega arith
 
 -- the line closes the document
-pub stands_closed : (old new : Gathering) (before : List (List ℕ)) (inside line : List ℕ) (given : List Item) (doc : docs.Doc) (root : Root) → Stands old before inside given → is_ended line ≡ true →
+pub stands_closed : (old new : Recorder) (before : List (List ℕ)) (inside line : List ℕ) (given : List Item) (doc : docs.Doc) (root : Root) → Stands old before inside given → is_ended line ≡ true →
     (inside ≡ [] → Begins before line) → bytes_in (before ++ lines_of inside) + length line ≤ most_bytes → HasVerdict (inside ++ line) (IsTree root) → content doc ≡ inside ++ line →
-    HasGathered new [] → (brought : Item) × IsItem (Document doc) brought × Standing new ((before ++ lines_of inside) ++ line ∷ []) (given ++ brought ∷ [])
-stands_closed old new before inside line given doc root s ends one fits v content_is gathered = (
+    HasRecorded new [] → (brought : Item) × IsItem (Document doc) brought × Standing new ((before ++ lines_of inside) ++ line ∷ []) (given ++ brought ∷ [])
+stands_closed old new before inside line given doc root s ends one fits v content_is known = (
   Showing root,
   subst (λ bs. HasVerdict bs (IsTree root)) (sym content_is) v,
   record {
     before = (before ++ lines_of inside) ++ line ∷ [];
     inside = [];
     lines_are = sym (append-nil ((before ++ lines_of inside) ++ line ∷ []));
-    stands = record { leads = leads; whole = refl; gathered = gathered; begins = λ line rest e. absurd (cc); still_open = nothing_open old before inside given s };
+    stands = record { leads = leads; whole = refl; recorded = known; begins = λ line rest e. absurd (cc); still_open = nothing_open old before inside given s };
   },
 )
   where
@@ -239,7 +240,7 @@ some_opening before (first ∷ more) none begins = record { first = first; more 
 abbrev pub MayEnd : (before : List (List ℕ)) → (inside line : List ℕ) → Type 0
 MayEnd before inside line = inside ≡ [] → (0 < length line) × Begins before line
 
-pub opening_end : (document : Gathering) (before : List (List ℕ)) (inside line : List ℕ) (given : List Item) → Stands document before inside given → has_no_feed line ≡ true →
+pub opening_end : (document : Recorder) (before : List (List ℕ)) (inside line : List ℕ) (given : List Item) → Stands document before inside given → has_no_feed line ≡ true →
     MayEnd before inside line → Opening before (lines_of inside ++ lines_of line)
 opening_end document before inside line given s n may = on (last_lines line n)
   where
@@ -260,7 +261,7 @@ size_end before lines line fits =
     sum m x y z w v l p q r t = omega arith
 
 -- the lines end the document
-pub ends_tree : (old : Gathering) (before : List (List ℕ)) (inside line : List ℕ) (given : List Item) (doc : docs.Doc) (root : Root) → Stands old before inside given → has_no_feed line ≡ true →
+pub ends_tree : (old : Recorder) (before : List (List ℕ)) (inside line : List ℕ) (given : List Item) (doc : docs.Doc) (root : Root) → Stands old before inside given → has_no_feed line ≡ true →
     MayEnd before inside line → bytes_in (before ++ lines_of inside) + length line ≤ most_bytes → HasVerdict (inside ++ line) (IsTree root) → content doc ≡ inside ++ line →
     (brought : Item) × IsItem (Document doc) brought × Gives [] ((before ++ lines_of inside) ++ lines_of line) (given ++ brought ∷ []) AtEnd
 ends_tree old before inside line given doc root s n may fits v content_is = (
@@ -308,19 +309,19 @@ cuts_weaker (Ok (Some item)) Known Wanted lines given f (brought, is, k) = (brou
 cuts_weaker (Err failure) Known Wanted lines given f k = k
 
 -- the place of a line behind lines: between documents, or in one
-pub data Placed (document : Gathering) (lines : List (List ℕ)) (given : List Item) : Type 0 where
+pub data Placed (document : Recorder) (lines : List (List ℕ)) (given : List Item) : Type 0 where
   outside_them : Stands document lines [] given → Placed document lines given
   inside_one : (before : List (List ℕ)) (inside : List ℕ) → lines ≡ before ++ lines_of inside → Stands document before inside given → (inside ≡ [] → ⊥) → Placed document lines given
 
-pub placed : (document : Gathering) (lines : List (List ℕ)) (given : List Item) → Standing document lines given → Placed document lines given
+pub placed : (document : Recorder) (lines : List (List ℕ)) (given : List Item) → Standing document lines given → Placed document lines given
 placed document lines given s = on s.inside refl
   where
     on : (bytes : List ℕ) → s.inside ≡ bytes → Placed document lines given
-    on [] e = outside_them (stands_outside document lines given s (ap length (s.stands.gathered.bytes_are ∙ e)))
+    on [] e = outside_them (stands_outside document lines given s (ap length (s.stands.recorded.bytes_are ∙ e)))
     on (b ∷ bytes) e = inside_one s.before s.inside s.lines_are s.stands (λ none. let f : (b ∷ bytes) ≡ [] = sym e ∙ none in absurd (cc))
 
 -- the lines so far give whole items, and end between two of them or inside a document
-pub whole_lines : (document : Gathering) (lines : List (List ℕ)) (given : List Item) → Standing document lines given → bytes_in lines ≤ most_bytes →
+pub whole_lines : (document : Recorder) (lines : List (List ℕ)) (given : List Item) → Standing document lines given → bytes_in lines ≤ most_bytes →
     (stop : Stop) × Gives [] lines given stop × IsOpen stop
 whole_lines document lines given s fits = on (placed document lines given s)
   where

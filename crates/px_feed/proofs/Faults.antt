@@ -7,26 +7,24 @@ use Rattle.px_text.specs.Nodes.{Root}
 use Rattle.px_reader.specs.Lines.{lines_of, is_ended, has_no_feed, without_end}
 use Rattle.px_reader.specs.Spelling.{Spells}
 use Rattle.px_reader.specs.Verdicts.{Shows, IsFine, HasVerdict, Judges, IsTree, IsFaulty}
-use Rattle.px_reader.specs.Reading.{IsFirstFault, IsLastFault}
+use Rattle.px_reader.specs.Records.{Refuses, RefusesEnd}
 use Rattle.px_reader.specs.declared.fault.DocKind.{DocKind}
 use Rattle.px_reader.specs.declared.fault.DocKind.TheVariants.{NotHere, NotUtf8, LineLong, TooDeep, TooManyAttributes, TooBig, Truncated}
-use Rattle.px_reader.specs.declared.fault.ReaderFault.{ReaderFault}
-use Rattle.px_reader.specs.declared.fault.ReaderFault.TheVariants as reader
+use Rattle.px_reader.specs.declared.fault.LineFault.{LineFault}
+use Rattle.px_reader.specs.declared.fault.LineFault.TheVariants.{Kind, LineMemory}
 use Rattle.px_reader.proofs.Endless.{never_truncated}
 use Rattle.px_reader.proofs.Judged.{fine_behind, shows_same, breaks_shows, shows_breaks}
 use Rattle.px_reader.proofs.LineCuts.{lines_whole, take_next, take_long, sizes}
 use Rattle.px_reader.proofs.Verdicts.{Faulty, Ends, split, judges_one}
-use Rattle.px_feed.specs.declared.fault.Trouble.{Trouble}
-use Rattle.px_feed.specs.declared.fault.Trouble.TheVariants.{Kind, NoMemory}
-use Rattle.px_feed.specs.declared.gathering.Gathering.{Gathering}
+use Rattle.px_reader.specs.declared.recorder.Recorder.{Recorder}
 use Rattle.px_feed.specs.declared.line.FeedKind.{FeedKind}
 use Rattle.px_feed.specs.declared.line.FeedKind.TheVariants.{Doc, FeedLong}
 use Rattle.px_feed.specs.Cutting.{Leads, Stands, Standing, Fails, EndsBy}
 use Rattle.px_feed.specs.Effects.{Does, IsFit, DoesFit}
-use Rattle.px_feed.specs.Failures.{failure_at, failure_of}
+use Rattle.px_feed.specs.Failures.{failure_of}
 use Rattle.px_feed.specs.Items.{Item, Outside, Skips, Brings, Starts, Misplaced, AtFault, outside, ShowsOutside, ShowsInside, IsFirst, Begins, Gives, feed_rank, bytes_in, most_bytes}
 use Rattle.px_feed.proofs.Leading.{fails_outside, fails_inside, truncates, goes_on, goes_on_all}
-use Rattle.px_feed.proofs.Cuttings.{over, lines_more, size_more, size_before, fine_inside, opening, open_more, last_lines, MayEnd, opening_end, size_end, Placed, outside_them, inside_one, placed}
+use Rattle.px_feed.proofs.Cuttings.{over, lines_more, whole_more, size_more, size_before, fine_inside, opening, open_more, last_lines, MayEnd, opening_end, size_end, Placed, outside_them, inside_one, placed}
 
 is_misplaced : (x : Outside) → Does (Err (Kind NotHere)) x → x ≡ Misplaced
 is_misplaced Skips d = absurd d
@@ -78,35 +76,35 @@ first_not_here before line size fit placed = (placed, none)
     none (Doc Truncated) r s = s
 
 -- a line that is not taken outside documents
-pub trouble_fails : (before : List (List ℕ)) (line : List ℕ) (given : List Item) (n : ℕ) (trouble : Trouble) → Leads before given → bytes_in before + length line ≤ most_bytes →
-    DoesFit (Err trouble) line → n ≡ length before + 1 → Fails (before ++ line ∷ []) given (failure_of n trouble)
-trouble_fails before line given n NoMemory leads size does e = tt
-trouble_fails before line given n (Kind LineLong) leads size does e = fails_outside before line given (Doc LineLong) n leads (first_long before line size does) e
-trouble_fails before line given n (Kind NotUtf8) leads size does e = fails_outside before line given (Doc NotUtf8) n leads (first_not_utf8 before line size does.0 does.1) e
-trouble_fails before line given n (Kind NotHere) leads size does e =
+pub line_fails_outside : (before : List (List ℕ)) (line : List ℕ) (given : List Item) (n : ℕ) (fault : LineFault) → Leads before given → bytes_in before + length line ≤ most_bytes →
+    DoesFit (Err fault) line → n ≡ length before + 1 → Fails (before ++ line ∷ []) given (failure_of n fault)
+line_fails_outside before line given n LineMemory leads size does e = tt
+line_fails_outside before line given n (Kind LineLong) leads size does e = fails_outside before line given (Doc LineLong) n leads (first_long before line size does) e
+line_fails_outside before line given n (Kind NotUtf8) leads size does e = fails_outside before line given (Doc NotUtf8) n leads (first_not_utf8 before line size does.0 does.1) e
+line_fails_outside before line given n (Kind NotHere) leads size does e =
     fails_outside before line given (Doc NotHere) n leads (first_not_here before line size does.0 (is_misplaced (outside (without_end line)) does.1)) e
-trouble_fails before line given n (Kind TooDeep) leads size does e = absurd (not_done (outside (without_end line)) does.1)
+line_fails_outside before line given n (Kind TooDeep) leads size does e = absurd (not_done (outside (without_end line)) does.1)
   where
     not_done : (x : Outside) → Does (Err (Kind TooDeep)) x → ⊥
     not_done Skips d = d
     not_done (Brings item) d = d
     not_done Starts d = d
     not_done Misplaced d = d
-trouble_fails before line given n (Kind TooManyAttributes) leads size does e = absurd (not_done (outside (without_end line)) does.1)
+line_fails_outside before line given n (Kind TooManyAttributes) leads size does e = absurd (not_done (outside (without_end line)) does.1)
   where
     not_done : (x : Outside) → Does (Err (Kind TooManyAttributes)) x → ⊥
     not_done Skips d = d
     not_done (Brings item) d = d
     not_done Starts d = d
     not_done Misplaced d = d
-trouble_fails before line given n (Kind TooBig) leads size does e = absurd (not_done (outside (without_end line)) does.1)
+line_fails_outside before line given n (Kind TooBig) leads size does e = absurd (not_done (outside (without_end line)) does.1)
   where
     not_done : (x : Outside) → Does (Err (Kind TooBig)) x → ⊥
     not_done Skips d = d
     not_done (Brings item) d = d
     not_done Starts d = d
     not_done Misplaced d = d
-trouble_fails before line given n (Kind Truncated) leads size does e = absurd (not_done (outside (without_end line)) does.1)
+line_fails_outside before line given n (Kind Truncated) leads size does e = absurd (not_done (outside (without_end line)) does.1)
   where
     not_done : (x : Outside) → Does (Err (Kind Truncated)) x → ⊥
     not_done Skips d = d
@@ -140,7 +138,7 @@ first_inside before lines line rest l kind fine fits f =
         (subst (λ k. Shows (lines ++ line ∷ []) k other) (sym at) (shows_same (lines ++ line ∷ rest) (lines ++ line ∷ []) (length lines) other (sym (same_through lines line rest)) s))
 
 -- a line of a document with its first fault, whatever comes behind it
-inside_fails : (document : Gathering) (before : List (List ℕ)) (inside line : List ℕ) (rest : List (List ℕ)) (given : List Item) (kind : FeedKind) (n : ℕ) → Stands document before inside given →
+inside_fails : (document : Recorder) (before : List (List ℕ)) (inside line : List ℕ) (rest : List (List ℕ)) (given : List Item) (kind : FeedKind) (n : ℕ) → Stands document before inside given →
     (inside ≡ [] → Begins before line) → bytes_in before + bytes_in (lines_of inside) ≤ most_bytes → IsFirst (ShowsInside before (lines_of inside ++ line ∷ rest) (length (lines_of inside))) kind →
     n ≡ length (before ++ lines_of inside) + 1 → Gives [] (((before ++ lines_of inside) ++ line ∷ []) ++ rest) given (AtFault n kind)
 inside_fails document before inside line rest given kind n s one fits first e =
@@ -153,29 +151,30 @@ inside_fails document before inside line rest given kind n s one fits first e =
     (goes_on before lines (line ∷ rest) (fine_inside document before inside given s) s.still_open fits) first count)
 
 -- what the reader says of a line of the document
-pub refused_inside : (document : Gathering) (before : List (List ℕ)) (inside line : List ℕ) (given : List Item) (fault : ReaderFault) (n : ℕ) → Stands document before inside given →
+pub refused_inside : (document : Recorder) (before : List (List ℕ)) (inside line : List ℕ) (given : List Item) (fault : LineFault) (n : ℕ) → Stands document before inside given →
     is_ended line ≡ true → (inside ≡ [] → Begins before line) → bytes_in (before ++ lines_of inside) + length line ≤ most_bytes → n ≡ length (before ++ lines_of inside) + 1 →
-    IsFirstFault (inside ++ line) fault → Fails ((before ++ lines_of inside) ++ line ∷ []) given (failure_at n fault)
-refused_inside document before inside line given reader.Memory n s ends one fits e first = tt
-refused_inside document before inside line given (reader.Doc fault) n s ends one fits e first = λ rest.
-    inside_fails document before inside line rest given (Doc fault.kind) n s one (size_before before (lines_of inside) line fits)
-    (first_inside before (lines_of inside) line rest fault.line fault.kind (fine_inside document before inside given s) (size_more before (lines_of inside) line fits) (on (split (lines_of inside ++ line ∷ []) fault.line fault.kind here))) e
+    Refuses inside line fault → Fails ((before ++ lines_of inside) ++ line ∷ []) given (failure_of n fault)
+refused_inside document before inside line given LineMemory n s ends one fits e refused = tt
+refused_inside document before inside line given (Kind kind) n s ends one fits e refused = λ rest.
+    inside_fails document before inside line rest given (Doc kind) n s one (size_before before (lines_of inside) line fits)
+    (first_inside before (lines_of inside) line rest (length (lines_of inside) + 1) kind (fine_inside document before inside given s) (size_more before (lines_of inside) line fits)
+    (on (split (lines_of inside ++ line ∷ []) (length (lines_of inside) + 1) kind (refused [])))) e
   where
-    here : Judges (lines_of inside ++ line ∷ []) (IsFaulty fault.line fault.kind)
-    here = subst (λ ls. Judges ls (IsFaulty fault.line fault.kind)) (ap lines_of (append-nil (inside ++ line)) ∙ lines_more inside line s.whole ends) (first [])
+    all : (rest : List ℕ) → lines_of ((inside ++ line) ++ rest) ≡ lines_of inside ++ line ∷ lines_of rest
+    all rest =
+        lines_whole (inside ++ line) rest (whole_more inside line ends) ∙ ap (λ ls. ls ++ lines_of rest) (lines_more inside line s.whole ends)
+        ∙ append_assoc (lines_of inside) (line ∷ []) (lines_of rest)
 
-    on : Faulty (lines_of inside ++ line ∷ []) fault.line fault.kind ⊎ ((fault.kind ≡ Truncated) × Ends (lines_of inside ++ line ∷ []) fault.line) → Faulty (lines_of inside ++ line ∷ []) fault.line fault.kind
+    on : Faulty (lines_of inside ++ line ∷ []) (length (lines_of inside) + 1) kind ⊎ ((kind ≡ Truncated) × Ends (lines_of inside ++ line ∷ []) (length (lines_of inside) + 1)) →
+        Faulty (lines_of inside ++ line ∷ []) (length (lines_of inside) + 1) kind
     on (inl f) = f
-    on (inr (e, ends)) = absurd (never_truncated (inside ++ line) fault.line (λ rest. subst (λ k. HasVerdict ((inside ++ line) ++ rest) (IsFaulty fault.line k)) e (first rest)))
-
--- lines that spell a tree have no fault
-pub no_fault : (bytes : List ℕ) (root : Root) (fault : ReaderFault) (lines : List (List ℕ)) (given : List Item) (n : ℕ) → HasVerdict bytes (IsTree root) → IsLastFault bytes fault →
-    Fails lines given (failure_at n fault)
-no_fault bytes root reader.Memory lines given n v l = tt
-no_fault bytes root (reader.Doc fault) lines given n v l = let e : IsTree root ≡ IsFaulty fault.line fault.kind = judges_one (lines_of bytes) (IsTree root) (IsFaulty fault.line fault.kind) v l in absurd (cc)
+    on (inr (e, ends)) =
+        absurd (never_truncated (inside ++ line) (length (lines_of inside) + 1)
+        (λ rest. subst (λ k. HasVerdict ((inside ++ line) ++ rest) (IsFaulty (length (lines_of inside) + 1) k)) e
+        (subst (λ ls. Judges ls (IsFaulty (length (lines_of inside) + 1) kind)) (sym (all rest)) (refused (lines_of rest)))))
 
 -- the lines end, and the document does not
-truncated_end : (old : Gathering) (before : List (List ℕ)) (inside line : List ℕ) (given : List Item) (n : ℕ) → Stands old before inside given → has_no_feed line ≡ true →
+truncated_end : (old : Recorder) (before : List (List ℕ)) (inside line : List ℕ) (given : List Item) (n : ℕ) → Stands old before inside given → has_no_feed line ≡ true →
     MayEnd before inside line → bytes_in (before ++ lines_of inside) + length line ≤ most_bytes → n ≡ length ((before ++ lines_of inside) ++ lines_of line) →
     ((k : ℕ) → k < length (lines_of inside ++ lines_of line) → IsFine (lines_of inside ++ lines_of line) k) → ((root : Root) → Spells (lines_of inside ++ lines_of line) root → ⊥) →
     Gives [] ((before ++ lines_of inside) ++ lines_of line) given (AtFault n (Doc Truncated))
@@ -199,49 +198,49 @@ truncated_end old before inside line given n s no_feed may fits e fine none =
             (subst (λ ls. j ≤ length (lines_of inside ++ ls)) one l) (subst (λ ls. Spells (take j (lines_of inside ++ ls)) root) one spells)
 
 -- the lines end the document with a fault
-pub ends_fault : (old : Gathering) (before : List (List ℕ)) (inside line : List ℕ) (given : List Item) (fault : ReaderFault) (n : ℕ) → Stands old before inside given →
+pub ends_fault : (old : Recorder) (before : List (List ℕ)) (inside line : List ℕ) (given : List Item) (fault : LineFault) (n : ℕ) → Stands old before inside given →
     has_no_feed line ≡ true → MayEnd before inside line → bytes_in (before ++ lines_of inside) + length line ≤ most_bytes →
-    n ≡ length ((before ++ lines_of inside) ++ lines_of line) → IsLastFault (inside ++ line) fault → EndsBy (Err (failure_at n fault)) ((before ++ lines_of inside) ++ lines_of line) given
-ends_fault old before inside line given reader.Memory n s no_feed may fits e last = tt
-ends_fault old before inside line given (reader.Doc fault) n s no_feed may fits e last =
-    on (split (lines_of inside ++ lines_of line) fault.line fault.kind (subst (λ ls. Judges ls (IsFaulty fault.line fault.kind)) (lines_whole inside line s.whole) last))
+    n ≡ length ((before ++ lines_of inside) ++ lines_of line) → RefusesEnd inside line fault → EndsBy (Err (failure_of n fault)) ((before ++ lines_of inside) ++ lines_of line) given
+ends_fault old before inside line given LineMemory n s no_feed may fits e last = tt
+ends_fault old before inside line given (Kind kind) n s no_feed may fits e last =
+    on (split (lines_of inside ++ lines_of line) (length (lines_of (inside ++ line))) kind (subst (λ ls. Judges ls (IsFaulty (length (lines_of (inside ++ line))) kind)) (lines_whole inside line s.whole) last))
   where
     fine : (k : ℕ) → k < length (lines_of inside) → IsFine (lines_of inside) k
     fine = fine_inside old before inside given s
 
-    at_last : Faulty (lines_of inside ++ lines_of line) fault.line fault.kind → ((line ≡ []) × (lines_of line ≡ [])) ⊎ ((0 < length line) × (lines_of line ≡ line ∷ [])) →
-        Gives [] ((before ++ lines_of inside) ++ lines_of line) given (AtFault n (Doc fault.kind))
+    at_last : Faulty (lines_of inside ++ lines_of line) (length (lines_of (inside ++ line))) kind → ((line ≡ []) × (lines_of line ≡ [])) ⊎ ((0 < length line) × (lines_of line ≡ line ∷ [])) →
+        Gives [] ((before ++ lines_of inside) ++ lines_of line) given (AtFault n (Doc kind))
     at_last f (inl (empty, zero_lines)) =
         let same : lines_of inside ++ lines_of line ≡ lines_of inside = ap (λ ls. lines_of inside ++ ls) zero_lines ∙ append-nil (lines_of inside) in
         let l : f.k < length (lines_of inside) = subst (λ ls. f.k < length ls) same f.inside in
-        absurd (fine f.k l fault.kind (subst (λ ls. Shows ls f.k fault.kind) same f.shows))
+        absurd (fine f.k l kind (subst (λ ls. Shows ls f.k kind) same f.shows))
     at_last f (inr (some, one)) =
-        let g = subst (λ ls. Faulty (lines_of inside ++ ls) fault.line fault.kind) one f in
+        let g = subst (λ ls. Faulty (lines_of inside ++ ls) (length (lines_of (inside ++ line))) kind) one f in
         let count : n ≡ length (before ++ lines_of inside) + 1 = e ∙ ap (λ ls. length ((before ++ lines_of inside) ++ ls)) one ∙ length_push (before ++ lines_of inside) line in
-        let here = inside_fails old before inside line [] given (Doc fault.kind) n s (λ none. (may none).1) (size_before before (lines_of inside) line fits)
-        (first_inside before (lines_of inside) line [] fault.line fault.kind fine (size_more before (lines_of inside) line fits) g) count in
-        subst (λ ls. Gives [] ((before ++ lines_of inside) ++ ls) given (AtFault n (Doc fault.kind))) (sym one)
-        (subst (λ ls. Gives [] ls given (AtFault n (Doc fault.kind))) (append-nil ((before ++ lines_of inside) ++ line ∷ [])) here)
+        let here = inside_fails old before inside line [] given (Doc kind) n s (λ none. (may none).1) (size_before before (lines_of inside) line fits)
+        (first_inside before (lines_of inside) line [] (length (lines_of (inside ++ line))) kind fine (size_more before (lines_of inside) line fits) g) count in
+        subst (λ ls. Gives [] ((before ++ lines_of inside) ++ ls) given (AtFault n (Doc kind))) (sym one)
+        (subst (λ ls. Gives [] ls given (AtFault n (Doc kind))) (append-nil ((before ++ lines_of inside) ++ line ∷ [])) here)
 
-    on : Faulty (lines_of inside ++ lines_of line) fault.line fault.kind ⊎ ((fault.kind ≡ Truncated) × Ends (lines_of inside ++ lines_of line) fault.line) →
-        Gives [] ((before ++ lines_of inside) ++ lines_of line) given (AtFault n (Doc fault.kind))
+    on : Faulty (lines_of inside ++ lines_of line) (length (lines_of (inside ++ line))) kind ⊎ ((kind ≡ Truncated) × Ends (lines_of inside ++ lines_of line) (length (lines_of (inside ++ line)))) →
+        Gives [] ((before ++ lines_of inside) ++ lines_of line) given (AtFault n (Doc kind))
     on (inl f) = at_last f (last_lines line no_feed)
     on (inr (k, ends)) =
         subst (λ kind. Gives [] ((before ++ lines_of inside) ++ lines_of line) given (AtFault n (Doc kind))) (sym k)
         (truncated_end old before inside line given n s no_feed may fits e ends.0 ends.1)
 
 -- a last line that is not taken outside documents
-pub trouble_ends : (before : List (List ℕ)) (line : List ℕ) (given : List Item) (n : ℕ) (trouble : Trouble) → Fails (before ++ line ∷ []) given (failure_of n trouble) →
-    EndsBy (Err (failure_of n trouble)) (before ++ line ∷ []) given
-trouble_ends before line given n NoMemory f = tt
-trouble_ends before line given n (Kind kind) f = subst (λ ls. Gives [] ls given (AtFault n (Doc kind))) (append-nil (before ++ line ∷ [])) (f [])
+pub line_ends_outside : (before : List (List ℕ)) (line : List ℕ) (given : List Item) (n : ℕ) (fault : LineFault) → Fails (before ++ line ∷ []) given (failure_of n fault) →
+    EndsBy (Err (failure_of n fault)) (before ++ line ∷ []) given
+line_ends_outside before line given n LineMemory f = tt
+line_ends_outside before line given n (Kind kind) f = subst (λ ls. Gives [] ls given (AtFault n (Doc kind))) (append-nil (before ++ line ∷ [])) (f [])
 
 pub first_big : (before lines : List (List ℕ)) (line : List ℕ) (rest : List (List ℕ)) → most_bytes < bytes_in before + bytes_in (lines ++ line ∷ []) →
     IsFirst (ShowsInside before (lines ++ line ∷ rest) (length lines)) FeedLong
 first_big before lines line rest long = (subst (λ ls. most_bytes < bytes_in before + bytes_in ls) (sym (take_next lines line rest)) long, λ other r s. absurd (omega arith))
 
 -- with the line the feed has too many bytes
-pub long_fails : (document : Gathering) (lines : List (List ℕ)) (line : List ℕ) (given : List Item) (n : ℕ) → Standing document lines given → bytes_in lines ≤ most_bytes →
+pub long_fails : (document : Recorder) (lines : List (List ℕ)) (line : List ℕ) (given : List Item) (n : ℕ) → Standing document lines given → bytes_in lines ≤ most_bytes →
     most_bytes < bytes_in lines + length line → n ≡ length lines + 1 → (rest : List (List ℕ)) → Gives [] ((lines ++ line ∷ []) ++ rest) given (AtFault n FeedLong)
 long_fails document lines line given n s fits long e rest =
     subst (λ ls. Gives [] ((ls ++ line ∷ []) ++ rest) given (AtFault n FeedLong)) (sym s.lines_are)
@@ -296,7 +295,7 @@ first_inside_big before lines line rest fits big = (breaks_shows lines line rest
     none (Doc other) r s = omega arith
 
 -- a line that is too long, where it leaves room in its document
-pub line_long_fails : (document : Gathering) (lines : List (List ℕ)) (line : List ℕ) (given : List Item) (n count : ℕ) → Standing document lines given → length line ≡ count → 1_048_578 < count →
+pub line_long_fails : (document : Recorder) (lines : List (List ℕ)) (line : List ℕ) (given : List Item) (n count : ℕ) → Standing document lines given → length line ≡ count → 1_048_578 < count →
     bytes_in lines + count ≤ most_bytes → (0 < length document.bytes.items → length document.bytes.items + count ≤ 16_777_216) → n ≡ length lines + 1 →
     (rest : List (List ℕ)) → Gives [] ((lines ++ line ∷ []) ++ rest) given (AtFault n (Doc LineLong))
 line_long_fails document lines line given n count s same long fits room e rest = on (placed document lines given s)
@@ -308,7 +307,7 @@ line_long_fails document lines line given n count s same long fits room e rest =
     on (outside_them t) = fails_outside lines line given (Doc LineLong) n t.leads (first_long lines line size (too_many line count same long)) e rest
     on (inside_one before inside lines_are t some) =
         let fit = subst (λ ls. bytes_in ls + length line ≤ most_bytes) lines_are size in
-        let held : length document.bytes.items ≡ length inside = ap length t.gathered.bytes_are in
+        let held : length document.bytes.items ≡ length inside = ap length t.recorded.bytes_are in
         let many = some_length inside some in
         let small = within (sum_by length (lines_of inside)) (length inside) (length document.bytes.items) (length line) count (sizes inside) held same (room (subst (λ k. 0 < k) (sym held) many)) in
         subst (λ ls. Gives [] ((ls ++ line ∷ []) ++ rest) given (AtFault n (Doc LineLong))) (sym lines_are)
@@ -323,7 +322,7 @@ line_long_fails document lines line given n count s same long fits room e rest =
         within w i d l c p q r t = omega arith
 
 -- a line with which its document is too big
-pub too_big_fails : (document : Gathering) (lines : List (List ℕ)) (line : List ℕ) (given : List Item) (n count : ℕ) → Standing document lines given → length line ≡ count →
+pub too_big_fails : (document : Recorder) (lines : List (List ℕ)) (line : List ℕ) (given : List Item) (n count : ℕ) → Standing document lines given → length line ≡ count →
     bytes_in lines + count ≤ most_bytes → (length document.bytes.items ≡ 0 → ⊥) → 16_777_216 < length document.bytes.items + count → n ≡ length lines + 1 →
     (rest : List (List ℕ)) → Gives [] ((lines ++ line ∷ []) ++ rest) given (AtFault n (Doc TooBig))
 too_big_fails document lines line given n count s same fits begun big e rest = on (placed document lines given s)
@@ -332,10 +331,10 @@ too_big_fails document lines line given n count s same fits begun big e rest = o
     size = subst (λ k. bytes_in lines + k ≤ most_bytes) (sym same) fits
 
     on : Placed document lines given → Gives [] ((lines ++ line ∷ []) ++ rest) given (AtFault n (Doc TooBig))
-    on (outside_them t) = absurd (begun (ap length t.gathered.bytes_are))
+    on (outside_them t) = absurd (begun (ap length t.recorded.bytes_are))
     on (inside_one before inside lines_are t some) =
         let fit = subst (λ ls. bytes_in ls + length line ≤ most_bytes) lines_are size in
-        let more = above (sum_by length (lines_of inside)) (length inside) (length document.bytes.items) (length line) count (sizes inside) (ap length t.gathered.bytes_are) same big in
+        let more = above (sum_by length (lines_of inside)) (length inside) (length document.bytes.items) (length line) count (sizes inside) (ap length t.recorded.bytes_are) same big in
         subst (λ ls. Gives [] ((ls ++ line ∷ []) ++ rest) given (AtFault n (Doc TooBig))) (sym lines_are)
         (inside_fails document before inside line rest given (Doc TooBig) n t (λ none. absurd (some none)) (size_before before (lines_of inside) line fit)
         (first_inside_big before (lines_of inside) line rest (size_more before (lines_of inside) line fit) more) (e ∙ ap (λ ls. length ls + 1) lines_are))

@@ -1,4 +1,3 @@
-pub mod Gatherings
 pub mod Cuttings
 pub mod Faults
 pub mod Generating

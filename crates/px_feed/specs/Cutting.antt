@@ -3,14 +3,14 @@ use Rattle.std.specs.Prelude.{◌≡◌, ℕ, ◌+◌, ◌<◌, ◌≤◌, true,
 use Rattle.px_text.specs.Nodes.{Root}
 use Rattle.px_reader.specs.Lines.{lines_of, is_whole, has_no_feed}
 use Rattle.px_reader.specs.Spelling.{Spells}
+use Rattle.px_reader.specs.declared.recorder.Recorder.{Recorder}
 use Rattle.px_feed.specs.declared.cutter.Cutter.{Cutter}
 use Rattle.px_feed.specs.declared.fault.Failure.{Failure}
 use Rattle.px_feed.specs.declared.fault.Failure.TheVariants.{Fault, Memory}
-use Rattle.px_feed.specs.declared.gathering.Gathering.{Gathering}
 use Rattle.px_feed.specs.declared.item.Item.{Item as Given}
 use Rattle.px_feed.specs.declared.outside.Effect.{Effect}
 use Rattle.px_feed.specs.Effects.{IsItem, DoesFit}
-use Rattle.px_feed.specs.Gathered.{HasGathered}
+use Rattle.px_feed.specs.Recordings.{HasRecorded}
 use Rattle.px_feed.specs.Items.{Item, Stop, AtEnd, AtFault, Begins, Gives, bytes_in, most_bytes}
 
 -- Whatever comes behind these lines, which gave these items, gives its own.
@@ -19,15 +19,15 @@ Leads lines given =
     (rest : List (List ℕ)) (items : List Item) (stop : Stop) → Gives lines rest items stop → Gives [] (lines ++ rest) (given ++ items) stop
 
 -- Behind the lines before, which gave these items, a document has begun with the bytes inside; or none has, and they are none.
-pub record Stands (document : Gathering) (before : List (List ℕ)) (inside : List ℕ) (given : List Item) : Type 0 where
+pub record Stands (document : Recorder) (before : List (List ℕ)) (inside : List ℕ) (given : List Item) : Type 0 where
   pub leads : Leads before given
   pub whole : is_whole inside ≡ true
-  pub gathered : HasGathered document inside
+  pub recorded : HasRecorded document inside
   pub begins : (line : List ℕ) (more : List (List ℕ)) → lines_of inside ≡ line ∷ more → Begins before line
   pub still_open : (j : ℕ) (root : Root) → j ≤ length (lines_of inside) → Spells (take j (lines_of inside)) root → ⊥
 
--- These lines gave these items, and the document of the last of them is gathered.
-pub record Standing (document : Gathering) (lines : List (List ℕ)) (given : List Item) : Type 0 where
+-- These lines gave these items, and the document of the last of them is recorded.
+pub record Standing (document : Recorder) (lines : List (List ℕ)) (given : List Item) : Type 0 where
   pub before : List (List ℕ)
   pub inside : List ℕ
   pub lines_are : lines ≡ before ++ lines_of inside

@@ -5,8 +5,7 @@ pub mod Matches
 pub mod Statuses
 pub mod Items
 pub mod Failures
-pub mod Following
-pub mod Gathered
+pub mod Recordings
 pub mod Effects
 pub mod Cutting
 pub mod Joining

@@ -1,13 +1,14 @@
 //! Which items lines give, line by line.
 
+ghost use Rattle.std.specs.Prelude.{IsTrue, IsUtf8};
+
 use crate::extent::Extent;
 use crate::fault::Failure;
-use crate::gathering::Gathering;
 use crate::item::Item;
 use crate::line::FeedKind;
 use crate::outside::{Effect, judge};
-use px_reader::DocKind;
-use std::alloc::{AllocError, Global};
+use px_reader::{DocKind, Recorder};
+use std::alloc::Global;
 
 /// The most bytes of a document.
 const MAX_DOCUMENT: u64 = 16_777_216;
@@ -17,30 +18,31 @@ const MAX_DOCUMENT: u64 = 16_777_216;
 pub struct Cutter {
     alloc: Global,
     /// the lines of the document that has begun; none outside documents
-    document: Gathering,
+    document: Recorder,
     extent: Extent,
 }
 
 impl Cutter {
-    ghost use Rattle.std.specs.Prelude.{◌≡◌, ◌<◌, ◌≤◌, ◌+◌, ◌∷◌, [], ◌++◌, List, ℕ, Ok, length, IfOk, OnOk, IsTrue, IsFalse};
+    ghost use Rattle.std.specs.Prelude.{◌≡◌, ◌<◌, ◌≤◌, ◌+◌, ◌∷◌, [], ◌++◌, List, ℕ, Ok, length, true, OnOk, IsTrue, IsFalse};
     ghost use Rattle.px_reader.specs.Lines.{is_ended, has_no_feed, lines_of, without_end};
+    ghost use Rattle.px_reader.specs.Recorded.{recorded};
     ghost use Rattle.px_feed.specs.Items as items;
     ghost use Rattle.px_feed.specs.Cutting.{HasCut, CutBy, CutsLine, CutsOn, CutsEffect, EndsBy, EndsOn, EndsEffect, Fails};
 
-    /// Before the first line. It fails only where memory is refused.
-    pub fn new(alloc: Global) -> Result<Cutter, AllocError>
-        ensures { IfOk result (λ cutter. HasCut cutter [] []) }
+    /// Before the first line. It takes no memory.
+    pub fn new(alloc: Global) -> Cutter
+        ensures { HasCut result [] [] }
     {
-        Ok(Cutter {
+        Cutter {
             alloc,
-            document: Gathering::new(alloc)?,
+            document: Recorder::new(alloc),
             extent: Extent::start(),
-        })
+        }
     }
 
     /// How many more bytes a feed may have.
     pub fn room(&self) -> u64
-        ensures { result + self.now.extent.bytes ≡ 1_099_511_627_776 }
+        ensures { result + self.now.extent.bytes ≡ items.most_bytes }
     {
         self.extent.room()
     }
@@ -65,7 +67,7 @@ impl Cutter {
     pub fn finish(&mut self, line: &[u8]) -> Result<Option<Item>, Failure>
         requires { IsTrue (has_no_feed line.now) }
         ensures { (lines : List (List ℕ)) (given : List items.Item) → HasCut self.old lines given →
-            items.bytes_in lines + length line.now ≤ 1_099_511_627_776 →
+            items.bytes_in lines + length line.now ≤ items.most_bytes →
             EndsBy result (lines ++ lines_of line.now) given }
     {
         if !self.document.is_empty() {
@@ -76,14 +78,14 @@ impl Cutter {
         }
         match judge(self.alloc, line) {
             Ok(effect) => self.follow_last(effect, line),
-            Err(trouble) => Err(Failure::of_trouble(self.extent.next_line(), trouble)),
+            Err(fault) => Err(Failure::of_line(self.extent.next_line(), fault)),
         }
     }
 
     /// The fault of a line with which the feed has too many bytes.
     pub fn too_much(&self) -> Failure
         ensures { (lines : List (List ℕ)) (given : List items.Item) (line : List ℕ) → HasCut self.now lines given →
-            1_099_511_627_776 < items.bytes_in lines + length line → Fails (lines ++ line ∷ []) given result }
+            items.most_bytes < items.bytes_in lines + length line → Fails (lines ++ line ∷ []) given result }
     {
         Failure::at(self.extent.next_line(), FeedKind::FeedLong)
     }
@@ -92,7 +94,7 @@ impl Cutter {
     pub fn too_long(&self, count: u64) -> Failure
         requires { 1_048_578 < count }
         ensures { (lines : List (List ℕ)) (given : List items.Item) (line : List ℕ) → HasCut self.now lines given →
-            length line ≡ count → items.bytes_in lines + count ≤ 1_099_511_627_776 → Fails (lines ++ line ∷ []) given result }
+            length line ≡ count → items.bytes_in lines + count ≤ items.most_bytes → Fails (lines ++ line ∷ []) given result }
     {
         let number = self.extent.next_line();
         if self.leaves_room(count) {
@@ -104,9 +106,9 @@ impl Cutter {
     /// Whether no document has begun, or one that is not too big with so many bytes more.
     fn leaves_room(&self, count: u64) -> bool
         requires { 0 < count }
-        ensures outside { length self.now.document.bytes.items ≡ 0 → IsTrue result }
-        ensures inside { 0 < length self.now.document.bytes.items → IsTrue result → length self.now.document.bytes.items + count ≤ 16_777_216 }
-        ensures beyond { IsFalse result → 16_777_216 < length self.now.document.bytes.items + count }
+        ensures outside { length (recorded self.now.document) ≡ 0 → IsTrue result }
+        ensures inside { 0 < length (recorded self.now.document) → IsTrue result → length (recorded self.now.document) + count ≤ 16_777_216 }
+        ensures beyond { IsFalse result → 16_777_216 < length (recorded self.now.document) + count }
     {
         if self.document.is_empty() {
             return true;
@@ -125,7 +127,7 @@ impl Cutter {
         }
         match judge(self.alloc, line) {
             Ok(effect) => self.follow(effect, line),
-            Err(trouble) => Err(Failure::of_trouble(self.extent.next_line(), trouble)),
+            Err(fault) => Err(Failure::of_line(self.extent.next_line(), fault)),
         }
     }
 
@@ -149,20 +151,19 @@ impl Cutter {
         ensures cuts { CutsOn self.old line.now result self.new }
     {
         let number = self.extent.next_line();
-        if let Err(fault) = self.document.add(line) {
-            return Err(Failure::of_reader(number, fault));
+        if let Err(fault) = self.document.add(line, is_text(line)) {
+            return Err(Failure::of_line(number, fault));
         }
         if !self.document.is_closed() {
             return Ok(None);
         }
-        match self.document.end() {
-            Ok(doc) => Ok(Some(Item::Document { doc })),
-            Err(fault) => Err(Failure::of_reader(number, fault)),
-        }
+        let doc = self.document.take();
+        Ok(Some(Item::Document { doc }))
     }
 
     /// Does what the last line does, which stands outside documents.
     fn follow_last(&mut self, effect: Effect, line: &[u8]) -> Result<Option<Item>, Failure>
+        requires no_feed { has_no_feed line.now ≡ true }
         ensures { EndsEffect self.old effect line.now result }
     {
         match effect {
@@ -174,12 +175,20 @@ impl Cutter {
 
     /// Ends a document by its last line, if there is one that no line feed ends.
     fn end_document(&mut self, line: &[u8]) -> Result<Option<Item>, Failure>
+        requires no_feed { has_no_feed line.now ≡ true }
         ensures { EndsOn self.old line.now result }
     {
         let number = self.extent.lines_with(line);
         match self.document.end_with(line) {
             Ok(doc) => Ok(Some(Item::Document { doc })),
-            Err(fault) => Err(Failure::of_reader(number, fault)),
+            Err(fault) => Err(Failure::of_line(number, fault)),
         }
     }
+}
+
+/// Whether a line is UTF-8.
+fn is_text(line: &[u8]) -> bool
+    ensures { IsTrue result → IsUtf8 line.now }
+{
+    str::from_utf8(line).is_ok()
 }

@@ -1,6 +1,7 @@
 //! How much of a feed has been read.
 
 ghost use Rattle.std.specs.Prelude.{◌≡◌, ◌≤◌, ◌<◌, ◌+◌, length, MatchOption};
+ghost use Rattle.px_feed.specs.Items.{most_bytes};
 
 /// The most bytes of a feed.
 const MAX_BYTES: u64 = 1_099_511_627_776;
@@ -11,7 +12,7 @@ pub struct Extent {
     lines: u64,
     bytes: u64,
     ghost counted: { lines ≤ bytes },
-    ghost bounded: { bytes ≤ 1_099_511_627_776 },
+    ghost bounded: { bytes ≤ most_bytes },
 }
 
 impl Extent {
@@ -24,7 +25,7 @@ impl Extent {
 
     /// How many more bytes a feed may have.
     pub fn room(&self) -> u64
-        ensures { result + self.now.bytes ≡ 1_099_511_627_776 }
+        ensures { result + self.now.bytes ≡ most_bytes }
     {
         MAX_BYTES - self.bytes
     }
@@ -52,7 +53,7 @@ impl Extent {
     /// The extent with a line more, of so many bytes, unless they are too many.
     pub fn with_line(&self, count: usize) -> Option<Extent>
         requires { 0 < count }
-        ensures { MatchOption result (1_099_511_627_776 < self.now.bytes + count)
+        ensures { MatchOption result (most_bytes < self.now.bytes + count)
             (λ grown. (grown.lines ≡ self.now.lines + 1) × (grown.bytes ≡ self.now.bytes + count)) }
     {
         if count as u64 > self.room() {

@@ -2,27 +2,11 @@
 
 ghost use Rattle.std.specs.Prelude.{◌≡◌};
 ghost use Rattle.px_feed.specs.declared.fault.Failure.TheVariants as failure;
-ghost use Rattle.px_feed.specs.declared.fault.Trouble.TheVariants.{NoMemory};
-ghost use Rattle.px_feed.specs.Failures.{failure_at, failure_of};
+ghost use Rattle.px_feed.specs.Failures.{failure_of};
 
 use crate::line::{FeedFault, FeedKind};
-use px_reader::{DocKind, ReaderFault};
+use px_reader::LineFault;
 use std::alloc::AllocError;
-
-/// Why a line outside documents is not taken.
-#[derive(Clone, Copy, Debug, Drop)]
-pub enum Trouble {
-    Kind(DocKind),
-    NoMemory,
-}
-
-impl From<AllocError> for Trouble {
-    ghost from_gives = { λ _ trouble. trouble ≡ NoMemory };
-
-    fn from(_refused: AllocError) -> Trouble {
-        Trouble::NoMemory
-    }
-}
 
 /// Why no further item is given.
 #[derive(Clone, Copy, Debug, Drop)]
@@ -40,23 +24,13 @@ impl From<AllocError> for Failure {
 }
 
 impl Failure {
-    /// The failure of the line with this number, which is not taken outside documents.
-    pub fn of_trouble(line: u64, trouble: Trouble) -> Failure
-        ensures { result ≡ failure_of line trouble }
-    {
-        match trouble {
-            Trouble::Kind(kind) => Failure::at(line, FeedKind::Doc(kind)),
-            Trouble::NoMemory => Failure::Memory,
-        }
-    }
-
-    /// The failure of the line with this number, which a document does not take.
-    pub fn of_reader(line: u64, fault: ReaderFault) -> Failure
-        ensures { result ≡ failure_at line fault }
+    /// The failure of the line with this number, which is not taken.
+    pub fn of_line(line: u64, fault: LineFault) -> Failure
+        ensures { result ≡ failure_of line fault }
     {
         match fault {
-            ReaderFault::Doc(fault) => Failure::at(line, FeedKind::Doc(fault.kind)),
-            ReaderFault::Memory => Failure::Memory,
+            LineFault::Kind(kind) => Failure::at(line, FeedKind::Doc(kind)),
+            LineFault::LineMemory => Failure::Memory,
         }
     }
 

@@ -90,7 +90,7 @@ impl Items {
         ensures { IfOk result (λ items. (left : Option (List ℕ)) → HasTaken items left [] []) }
     {
         Ok(Items {
-            joiner: Joiner::new(alloc)?,
+            joiner: Joiner::new(alloc),
             piece: zeros(alloc, PIECE)?,
             at: 0,
             end: 0,

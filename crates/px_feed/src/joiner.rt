@@ -2,6 +2,7 @@
 
 ghost use Rattle.std.specs.Prelude.{◌≡◌, ◌≤◌, ◌+◌, ◌++◌, ◌-◌, length, min, take, true, OnOk, OnErr};
 ghost use Rattle.px_reader.specs.Lines.{has_no_feed};
+ghost use Rattle.px_feed.specs.Items.{most_bytes};
 
 use crate::cutter::Cutter;
 use crate::fault::Failure;
@@ -22,7 +23,7 @@ pub struct Joiner {
     begun: u64,
     ghost unended: { has_no_feed kept.items ≡ true },
     ghost held: { length kept.items ≡ min begun 1_048_578 },
-    ghost within: { cutter.extent.bytes + begun ≤ 1_099_511_627_776 },
+    ghost within: { cutter.extent.bytes + begun ≤ most_bytes },
 }
 
 /// What a piece brings.
@@ -41,15 +42,15 @@ impl Joiner {
     ghost use Rattle.px_feed.specs.Items as items;
     ghost use Rattle.px_feed.specs.Joining.{HasJoined, JoinsLine, JoinsPart, JoinsPiece, UsesAtMost, EndsJoined, total};
 
-    /// Before the first piece. It fails only where memory is refused.
-    pub fn new(alloc: Global) -> Result<Joiner, AllocError>
-        ensures { IfOk result (λ joiner. HasJoined joiner [] []) }
+    /// Before the first piece. It takes no memory.
+    pub fn new(alloc: Global) -> Joiner
+        ensures { HasJoined result [] [] }
     {
-        Ok(Joiner {
-            cutter: Cutter::new(alloc)?,
+        Joiner {
+            cutter: Cutter::new(alloc),
             kept: Vec::new(alloc),
             begun: 0,
-        })
+        }
     }
 
     /// Takes a piece up to the first item that a line of it gives or ends, or all of it.

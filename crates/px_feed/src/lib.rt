@@ -9,7 +9,6 @@ mod cutter;
 mod extent;
 mod fault;
 mod feed;
-mod gathering;
 mod generator;
 mod id;
 mod item;

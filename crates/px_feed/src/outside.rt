@@ -7,9 +7,8 @@ ghost use Rattle.px_text.specs.Escapes.{unescaped};
 ghost use Rattle.px_feed.specs.Items.{Adding, Removing, Replacing, Brings, outside, of_kind};
 ghost use Rattle.px_feed.specs.Effects.{Does, DoesFit, passed_by};
 
-use crate::fault::Trouble;
 use crate::item::Item;
-use px_reader::{DocKind, split_at_space, without_end};
+use px_reader::{DocKind, LineFault, split_at_space, without_end};
 use px_text::{Bytes, is_letter, is_pyx_name, is_white, unescape};
 use std::alloc::{AllocError, Global};
 
@@ -26,21 +25,21 @@ pub enum Effect {
 }
 
 /// Judges a line with its end, where it has one.
-pub fn judge(alloc: Global, line: &[u8]) -> Result<Effect, Trouble>
+pub fn judge(alloc: Global, line: &[u8]) -> Result<Effect, LineFault>
     ensures { DoesFit result line.now }
 {
     let content = without_end(line);
     if content.len() > MAX_LINE {
-        return Err(Trouble::Kind(DocKind::LineLong));
+        return Err(LineFault::Kind(DocKind::LineLong));
     }
     if str::from_utf8(line).is_err() {
-        return Err(Trouble::Kind(DocKind::NotUtf8));
+        return Err(LineFault::Kind(DocKind::NotUtf8));
     }
     effect_of(alloc, content)
 }
 
 /// What a line without its end does.
-fn effect_of(alloc: Global, content: &[u8]) -> Result<Effect, Trouble>
+fn effect_of(alloc: Global, content: &[u8]) -> Result<Effect, LineFault>
     ensures { Does result (outside content.now) }
 {
     let Some((first, rest)) = content.split_first() else {
@@ -53,13 +52,13 @@ fn effect_of(alloc: Global, content: &[u8]) -> Result<Effect, Trouble>
         b'(' => open(rest),
         b'-' => say(alloc, rest),
         b'?' => Ok(Effect::Nothing),
-        b'A' => Err(Trouble::Kind(DocKind::NotHere)),
+        b'A' => Err(LineFault::Kind(DocKind::NotHere)),
         other => pass(other),
     }
 }
 
 /// A filter to add.
-fn add(alloc: Global, text: &[u8]) -> Result<Effect, Trouble>
+fn add(alloc: Global, text: &[u8]) -> Result<Effect, LineFault>
     ensures { Does result (Brings (Adding text.now)) }
 {
     let text = Bytes::of(alloc, text)?;
@@ -67,7 +66,7 @@ fn add(alloc: Global, text: &[u8]) -> Result<Effect, Trouble>
 }
 
 /// An id to drop.
-fn remove(alloc: Global, text: &[u8]) -> Result<Effect, Trouble>
+fn remove(alloc: Global, text: &[u8]) -> Result<Effect, LineFault>
     ensures { Does result (Brings (Removing text.now)) }
 {
     let text = Bytes::of(alloc, text)?;
@@ -75,7 +74,7 @@ fn remove(alloc: Global, text: &[u8]) -> Result<Effect, Trouble>
 }
 
 /// An id and the filter that takes its place.
-fn replace(alloc: Global, text: &[u8]) -> Result<Effect, Trouble>
+fn replace(alloc: Global, text: &[u8]) -> Result<Effect, LineFault>
     ensures { Does result (outside (94 ∷ text.now)) }
 {
     let (id, text) = split_at_space(text);
@@ -85,34 +84,34 @@ fn replace(alloc: Global, text: &[u8]) -> Result<Effect, Trouble>
 }
 
 /// The first line of a document, if it has a name.
-fn open(name: &[u8]) -> Result<Effect, Trouble>
+fn open(name: &[u8]) -> Result<Effect, LineFault>
     ensures { Does result (outside (40 ∷ name.now)) }
 {
     if is_pyx_name(name) {
         return Ok(Effect::Begins);
     }
-    Err(Trouble::Kind(DocKind::NotHere))
+    Err(LineFault::Kind(DocKind::NotHere))
 }
 
 /// A line of text, where only white space may stand.
-fn say(alloc: Global, text: &[u8]) -> Result<Effect, Trouble>
+fn say(alloc: Global, text: &[u8]) -> Result<Effect, LineFault>
     ensures { Does result (outside (45 ∷ text.now)) }
 {
     if is_blank(alloc, text)? {
         return Ok(Effect::Nothing);
     }
-    Err(Trouble::Kind(DocKind::NotHere))
+    Err(LineFault::Kind(DocKind::NotHere))
 }
 
 /// A line that begins with no byte that has a meaning of its own: one that begins with a letter
 /// is passed by.
-fn pass(first: u8) -> Result<Effect, Trouble>
+fn pass(first: u8) -> Result<Effect, LineFault>
     ensures { Does result (passed_by first) }
 {
     if is_letter(first) {
         return Ok(Effect::Nothing);
     }
-    Err(Trouble::Kind(DocKind::NotHere))
+    Err(LineFault::Kind(DocKind::NotHere))
 }
 
 /// Whether a text, with its escapes read, is white space or empty.

@@ -7,7 +7,7 @@ use Rattle.px_reader.proofs.LineCuts.{open_line}
 use Rattle.px_feed.specs.Cutting.{EndsBy, MayCome}
 use Rattle.px_feed.specs.Items.{Gives, AtEnd}
 use Rattle.px_feed.proofs.Cuttings.{has_begun, stands_outside}
-use Rattle.px_feed.proofs.Faults.{trouble_fails, trouble_ends}
+use Rattle.px_feed.proofs.Faults.{line_fails_outside, line_ends_outside}
 use Rattle.px_feed.proofs.Leading.{ended}
 use Rattle.px_feed.proofs.cutter.Cutter.finish.Goals as goal
 
@@ -42,7 +42,7 @@ returns-in-Err c = λ lines given h fits.
     let none = count_none (length c.args.self.now.document.bytes.items) c.is_empty.result c.is_empty.ensures c.if-not-is_empty.false in
     let some = count_some (length line) c.is_empty-2.result c.is_empty-2.ensures c.if-is_empty.false in
     let outside = stands_outside c.args.self.now.document lines given h.standing none in
-    let fails = trouble_fails lines line given c.next_line.result c.in-Err.trouble outside.leads fits c.in-Err.ensures (c.next_line.ensures ∙ ap (λ n. n + 1) h.counts) in
-    subst (λ ls. EndsBy (Err c.of_trouble.result) (lines ++ ls) given) (sym (open_line line c.requires some))
-    (subst (λ failure. EndsBy (Err failure) (lines ++ line ∷ []) given) (sym c.of_trouble.ensures)
-    (trouble_ends lines line given c.next_line.result c.in-Err.trouble fails))
+    let fails = line_fails_outside lines line given c.next_line.result c.in-Err.fault outside.leads fits c.in-Err.ensures (c.next_line.ensures ∙ ap (λ n. n + 1) h.counts) in
+    subst (λ ls. EndsBy (Err c.of_line.result) (lines ++ ls) given) (sym (open_line line c.requires some))
+    (subst (λ failure. EndsBy (Err failure) (lines ++ line ∷ []) given) (sym c.of_line.ensures)
+    (line_ends_outside lines line given c.next_line.result c.in-Err.fault fails))
