@@ -1,6 +1,5 @@
 pub mod Answering
 pub mod Changing
-pub mod Documented
 pub mod FeedEnds
 pub mod FeedFronts
 pub mod FeedLines

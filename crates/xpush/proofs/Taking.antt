@@ -16,8 +16,9 @@ use Rattle.px_runner.specs.declared.held.Held.{Held}
 use Rattle.px_runner.specs.declared.runner.Runner.{Runner}
 use Rattle.px_runner.specs.Running.{HasRun}
 use Rattle.px_runner.proofs.AcceptedIds.{accepted-matches}
-use Rattle.xpush.specs.Verdicts.{AreEvents, IsOf, ids_accepted, ids_matching}
-use Rattle.xpush.proofs.Documented.{same_tree}
+use Rattle.px_reader.specs.Verdicts.{AreEvents}
+use Rattle.xpush.specs.Verdicts.{IsOf, ids_accepted, ids_matching}
+use Rattle.px_reader.proofs.Telling.{tree_one}
 
 are-proper : (live : List Numbered) → AreProper (subscriptions live)
 are-proper [] = tt
@@ -59,10 +60,11 @@ behind_ids states stands_for old now before after program events (Err found) on 
 
 -- the ids of a document that is one
 pub doc_ids : {E M : Type 0} (states : M → List State) (stands_for : M → Held → List ℕ → Type 0) (memo : M) (runner : Runner)
-    (program : Automata) (doc : Doc) (events : List Event) (result : Result (List ℕ) E) → AreEvents (content doc) events → HasRun states stands_for memo runner program [] →
-    IfOk result (λ ids. (given : List Event) (root : Root) → HasRun states stands_for memo runner program given → events_of root ≡ given ++ events → ids ≡ ids_accepted program root) →
+    (program : Automata) (doc : Doc) (events : List Event) (result : Result (List ℕ) E) → AreEvents (content doc) events → HasRun states stands_for memo runner program events →
+    IfOk result (λ ids. (root : Root) → HasRun states stands_for memo runner program (events_of root) → ids ≡ ids_accepted program root) →
     (live : List Numbered) (root : Root) → program ≡ automata (subscriptions live) → IsOf doc root → IfOk result (λ ids. ids ≡ ids_matching (subscriptions live) root)
 doc_ids states stands_for memo runner program doc events (Ok ids) are run h live root e is =
-    let same : are.root ≡ root = same_tree (content doc) are.root root are.verdict is.verdict in
-    h [] are.root run (sym are.events_are) ∙ ap (λ r. ids_accepted program r) same ∙ accepts live program root e
+    let same : are.root ≡ root = tree_one (content doc) are.root root are.verdict is.verdict in
+    let P : List Event → Type 0 = λ es. HasRun states stands_for memo runner program es in
+    h are.root (subst P are.events_are run) ∙ ap (λ r. ids_accepted program r) same ∙ accepts live program root e
 doc_ids states stands_for memo runner program doc events (Err found) are run h live root e is = tt

@@ -2,10 +2,8 @@
 use Rattle.std.specs.Prelude.{◌≡◌, ℕ, List, map, filter}
 use Rattle.px_text.specs.Nodes.{Root}
 use Rattle.px_reader.specs.Documents.{content}
-use Rattle.px_reader.specs.Spelling.{events_of}
 use Rattle.px_reader.specs.Verdicts.{HasVerdict, IsTree}
 use Rattle.px_reader.specs.declared.doc.Doc.{Doc}
-use Rattle.px_reader.specs.declared.event.Event.{Event}
 use Rattle.px_afa.specs.Accepting.{accepted}
 use Rattle.px_afa.specs.Building.{Automata}
 use Rattle.px_afa.specs.Contents.{root_content}
@@ -16,12 +14,6 @@ use Rattle.px_xpath.specs.Meaning.{holds}
 -- the document's bytes spell the tree
 pub record IsOf (doc : Doc) (root : Root) : Type 0 where
   pub verdict : HasVerdict (content doc) (IsTree root)
-
--- the events are those of the tree that the bytes spell
-pub record AreEvents (bytes : List ℕ) (events : List Event) : Type 0 where
-  pub root : Root
-  pub verdict : HasVerdict bytes (IsTree root)
-  pub events_are : events ≡ events_of root
 
 -- the ids of the filters that hold of the tree
 abbrev pub ids_matching : List Subscription → Root → List ℕ

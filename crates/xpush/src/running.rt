@@ -8,7 +8,7 @@ ghost use Rattle.px_runner.specs.Running.{HasRun};
 ghost use Rattle.xpush.specs.Verdicts.{ids_accepted};
 
 use px_afa::Program;
-use px_reader::Event;
+use px_reader::{Event, EventList};
 use px_runner::{Memo, Runner};
 use px_text::Ids;
 use std::alloc::{AllocError, Global};
@@ -29,6 +29,25 @@ pub fn take_all<M: Memo>(
 {
     for next in events {
         runner.event(program, next.seen(), memo)?;
+    }
+    Ok(())
+}
+
+/// The same with the events of a list.
+pub fn take_listed<M: Memo>(
+    runner: &mut Runner,
+    program: &Program,
+    memo: &mut M,
+    events: &EventList,
+) -> Result<(), AllocError>
+    requires program { M.states memo.old ≡ program.now.states }
+    requires begun { (given : List Happened) × HasRun M.states M.stands_for memo.old runner.old program.now given × (length given + length events.now < 2 ^ 60) }
+    ensures ok { OnOk result ((given : List Happened) → HasRun M.states M.stands_for memo.old runner.old program.now given →
+        HasRun M.states M.stands_for memo.new runner.new program.now (given ++ events.now)) }
+    ensures same { M.states memo.new ≡ M.states memo.old }
+{
+    for place in 0..events.len() {
+        runner.event(program, events.get(place), memo)?;
     }
     Ok(())
 }
