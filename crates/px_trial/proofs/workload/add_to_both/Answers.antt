@@ -1,8 +1,26 @@
 -- The list takes the change that the journal takes, and its version is above the ids of the live filters.
-use Rattle.px_trial.proofs.Legal.{may_add}
+use Rattle.std.proofs.Common.{◌∙◌, ap}
+use Rattle.px_workload.specs.Changes.{change}
+use Rattle.px_workload.specs.declared.change.Change.TheVariants.{Add}
+use Rattle.px_xpath.specs.Subscribed.{subscriptions}
+use Rattle.px_trial.proofs.Legal.{comes_next, may_add, stays_listed}
 use Rattle.px_trial.proofs.workload.add_to_both.Goals as goal
 
-pub append-requires-clause-legal : goal.append-requires-clause-legal
-append-requires-clause-legal c =
+pub append-version-requires-clause-legal : goal.append-version-requires-clause-legal
+append-version-requires-clause-legal c =
     let room = c.has_room.ensures.room.0 c.if-not-has_room.false in
     may_add _ _ c.args.filter c.reserve.ensures.same c.has_room.ensures.legal room.small room.version
+
+pub take-requires-clause-next : goal.take-requires-clause-next
+take-requires-clause-next c =
+    let room = c.has_room.ensures.room.0 c.if-not-has_room.false in
+    comes_next c.args.journal.now.changes c.reserve.new.self.changes c.append-version.new.self.changes c.reserve-2.new.self.filters (Add 0 c.args.filter) c.append-version.result
+    c.live_filters_are_in_order.ensures.next
+    (may_add _ _ c.args.filter c.reserve.ensures.same c.has_room.ensures.legal room.small room.version)
+    c.reserve.ensures.same c.append-version.ensures.accepted c.append-version.ensures.version (ap subscriptions c.reserve-2.ensures.same ∙ c.requires.lists)
+
+pub returns-clause-lists : goal.returns-clause-lists
+returns-clause-lists c =
+    stays_listed c.args.journal.now.changes c.reserve.new.self.changes c.append-version.new.self.changes c.reserve-2.new.self.filters c.take.new.self.filters (Add 0 c.args.filter)
+    (change c.in_ok-shared.shared) c.append-version.result c.reserve.ensures.same c.append-version.ensures.accepted c.append-version.ensures.version
+    c.in_ok-shared.ensures.same (ap subscriptions c.reserve-2.ensures.same ∙ c.requires.lists) c.take.ensures.taken
