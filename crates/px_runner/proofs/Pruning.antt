@@ -43,7 +43,7 @@ body_needs-below states bodies.Always k h = cc
 body_needs-below states (bodies.State m) k h = needs-below states m k h
 
 -- what pop asks of two sets to give p the same answer
-popped-same : (states : List State) (label : Label) (a b : ℕ → Bool) (p : ℕ) → ((k : ℕ) → k < length states → pushed_state (state_at states p) label (needs states) p k ≡ true → a k ≡ b k) →
+pub popped-same : (states : List State) (label : Label) (a b : ℕ → Bool) (p : ℕ) → ((k : ℕ) → k < length states → pushed_state (state_at states p) label (needs states) p k ≡ true → a k ≡ b k) →
     popped states label a p ≡ popped states label b p
 popped-same states label a b p h = go (state_at states p) refl h
   where
@@ -71,7 +71,7 @@ popped-same states label a b p h = go (state_at states p) refl h
             (or_right (label.meets_test asked && body_needs (needs states) body p) ((is_below axis && label.of_element) && nat_eq p p) (and_from (is_below axis && label.of_element) (nat_eq p p) is (eq-eqb p p refl)))
 
 -- what a is_needed state of the parent looks at is is_needed inside
-pushed-inside : (states : List State) (needed : List ℕ) (label : Label) (p : ℕ) → has needed p ≡ true → (k : ℕ) → k < length states → pushed_state (state_at states p) label (needs states) p k ≡ true →
+pub pushed-inside : (states : List State) (needed : List ℕ) (label : Label) (p : ℕ) → has needed p ≡ true → (k : ℕ) → k < length states → pushed_state (state_at states p) label (needs states) p k ≡ true →
     has (push_of states needed label) k ≡ true
 pushed-inside states needed label p n k less h =
     has-numbers_where (length states) (pushed states label needed) k
