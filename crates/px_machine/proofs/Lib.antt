@@ -1,0 +1,5 @@
+pub mod Kept
+pub mod Unread
+pub mod Numbered
+pub mod Held
+pub mod Moved

@@ -1,0 +1,4 @@
+pub mod Unpruned
+pub mod Reads
+pub mod Facts
+pub mod Machines
