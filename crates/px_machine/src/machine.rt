@@ -4,6 +4,7 @@ ghost use Rattle.std.specs.Prelude.{◌≡◌, ◌≤◌, ℕ, List, [], ◌∷�
 ghost use Rattle.px_text.specs.Nodes.{Root};
 ghost use Rattle.px_reader.specs.Spelling.{events_of};
 ghost use Rattle.px_reader.specs.declared.event.Event.{Event as Happened};
+ghost use Rattle.px_reader.specs.Happenings.{event_of};
 ghost use Rattle.px_xpath.specs.Histories.{Change, live, matches};
 ghost use Rattle.px_afa.specs.Building as afa;
 ghost use Rattle.px_afa.specs.Building.{Automata};
@@ -16,7 +17,7 @@ ghost use Rattle.px_machine.specs.Machines.{IsAt, HasRun, program_of, given_numb
 use crate::facts::Facts;
 use crate::frame::Frame;
 use px_afa::Program;
-use px_reader::Event;
+use px_reader::Happening;
 use px_text::Ids;
 use std::alloc::{AllocError, Global};
 use std::mem;
@@ -57,10 +58,10 @@ impl<'p> Machine<'p> {
     }
 
     /// Takes the next event of a document. After `AllocError` it may only be dropped, or restarted.
-    pub fn event(&mut self, next: &Event) -> Result<(), AllocError>
+    pub fn event(&mut self, next: Happening<'_>) -> Result<(), AllocError>
         requires begun { (automata : Automata) × (given : List Happened) × HasRun self.old automata given }
         ensures same { program_of self.new ≡ program_of self.old }
-        ensures ok { OnOk result ((automata : Automata) (given : List Happened) → HasRun self.old automata given → HasRun self.new automata (given ++ next.now ∷ [])) }
+        ensures ok { OnOk result ((automata : Automata) (given : List Happened) → HasRun self.old automata given → HasRun self.new automata (given ++ (event_of next.entry) ∷ [])) }
     {
         self.take(next)
     }
@@ -100,20 +101,20 @@ impl<'p> Machine<'p> {
     }
 
     // The next event, whatever came before.
-    fn take(&mut self, next: &Event) -> Result<(), AllocError>
+    fn take(&mut self, next: Happening<'_>) -> Result<(), AllocError>
         requires at { (opened : Opened) × IsAt self.old opened }
         ensures same { program_of self.new ≡ program_of self.old }
-        ensures ok { OnOk result ((opened : Opened) → IsAt self.old opened → IsAt self.new (after_event (program_of self.old).states opened next.now)) }
+        ensures ok { OnOk result ((opened : Opened) → IsAt self.old opened → IsAt self.new (after_event (program_of self.old).states opened (event_of next.entry))) }
     {
         let program = self.facts.program();
         match next {
-            Event::Start { name } => self.start(program.label_of_element(name.as_slice())),
-            Event::Attr { name, value } => {
-                let label = program.label_of_attribute(name.as_slice());
-                self.leaf(label, value.as_slice(), b"")
+            Happening::Start { name } => self.start(program.label_of_element(name)),
+            Happening::Attr { name, value } => {
+                let label = program.label_of_attribute(name);
+                self.leaf(label, value, b"")
             }
-            Event::Text { text } => self.leaf(0, text.as_slice(), text.as_slice()),
-            Event::End => self.end(),
+            Happening::Text { text } => self.leaf(0, text, text),
+            Happening::End => self.end(),
         }
     }
 

@@ -4,11 +4,9 @@ use Rattle.px_text.specs.Nodes.{Root}
 use Rattle.px_xpath.specs.declared.numbered.Numbered.{Numbered}
 use Rattle.px_xpath.specs.Filters.{Way}
 use Rattle.px_xpath.specs.Subscribed.{subscriptions}
-use Rattle.px_afa.specs.declared.state.State.{State}
 use Rattle.px_afa.specs.Building.{Automata, automata}
-use Rattle.px_runner.specs.declared.held.Held.{Held}
-use Rattle.px_runner.specs.declared.runner.Runner.{Runner}
-use Rattle.px_runner.specs.Running.{HasRun}
+use Rattle.px_machine.specs.declared.machine.Machine.{Machine}
+use Rattle.px_machine.specs.Machines.{HasRun}
 use Rattle.px_io.specs.Flows.{TakesFrom, IsSpent}
 use Rattle.px_io.proofs.Flowing.{takes_both}
 use Rattle.px_reader.specs.declared.event.Event.{Event}
@@ -79,14 +77,6 @@ few_more given before came none t =
     let same : came ≡ t.0 = came_is before came t.0 none t.1 in
     subst P (sym same) t.3
 
--- a piece brings few enough events
-pub piece_few : (given came seen : List Event) → seen ≡ came → length (given ++ came) ≤ 16_777_216 → length given + length seen < 2 ^ 60
-piece_few given came seen e few = let all = length-append given came in let same = ap (λ (es : List Event). length es) e in omega arith
-
--- the end of a document brings the rest of its events
-pub last_few : (given before came : List Event) → before ≡ [] → GivesOn given before came → length given + length came < 2 ^ 60
-last_few given before came none t = let few = few_more given before came none t in let all = length-append given came in omega arith
-
 pub ends_whole : (bytes : List ℕ) (given before came : List Event) → before ≡ [] → EndsTree bytes given before came →
     (root : Root) × (events_of root ≡ given ++ came) × HasVerdict bytes (IsTree root)
 ends_whole bytes given before came none t =
@@ -94,27 +84,22 @@ ends_whole bytes given before came none t =
     (t.0, t.3 ∙ ap (λ events. given ++ events) (sym same), t.4)
 
 -- the last events, which the machine has still to take
-pub last_taken : {M : Type 0} (states : M → List State) (stands_for : M → Held → List ℕ → Type 0) (memo : M) (runner : Runner) (program : Automata)
-    (bytes : List ℕ) (given before came seen : List Event) → seen ≡ came → before ≡ [] → HasRun states stands_for memo runner program given →
-    EndsTree bytes given before came → GivesOn given before came →
-    (all : List Event) × (root : Root) × HasRun states stands_for memo runner program all × (events_of root ≡ all ++ seen) × (length all + length seen < 2 ^ 60)
-last_taken states stands_for memo runner program bytes given before came seen e none run ends gives =
+pub last_taken : (machine : Machine) (program : Automata) (bytes : List ℕ) (given before came seen : List Event) → seen ≡ came → before ≡ [] → HasRun machine program given →
+    EndsTree bytes given before came → (on : Automata) × (all : List Event) × (root : Root) × HasRun machine on all × (events_of root ≡ all ++ seen)
+last_taken machine program bytes given before came seen e none run ends =
     let whole = ends_whole bytes given before came none ends in
-    let few = last_few given before came none gives in
-    let same = ap (λ (es : List Event). length es) e in
-    (given, whole.0, run, whole.1 ∙ ap (λ es. given ++ es) (sym e), omega arith)
+    (program, given, whole.0, run, whole.1 ∙ ap (λ es. given ++ es) (sym e))
 
 -- a document that is read to its end
-pub gives_ids : {M : Type 0} (states : M → List State) (stands_for : M → Held → List ℕ → Type 0) (memo : M) (runner : Runner) (program : Automata)
-    (least : ℕ) (left now : Option (List ℕ)) (reader : Reader) (given before came seen : List Event) (ids : List ℕ) → seen ≡ came →
-    (r : Reads least left now reader given) → IsSpent now → before ≡ [] → EndsTree r.bytes given before came → HasRun states stands_for memo runner program given →
-    ((all : List Event) (root : Root) → HasRun states stands_for memo runner program all → events_of root ≡ all ++ seen → ids ≡ ids_accepted program root) →
+pub gives_ids : (machine : Machine) (program : Automata) (least : ℕ) (left now : Option (List ℕ)) (reader : Reader) (given before came seen : List Event) (ids : List ℕ) → seen ≡ came →
+    (r : Reads least left now reader given) → IsSpent now → before ≡ [] → EndsTree r.bytes given before came → HasRun machine program given →
+    ((on : Automata) (all : List Event) (root : Root) → HasRun machine on all → events_of root ≡ all ++ seen → ids ≡ ids_accepted on root) →
     GivesIds program left now ids
-gives_ids states stands_for memo runner program least left now reader given before came seen ids e r spent none ends run accepts =
+gives_ids machine program least left now reader given before came seen ids e r spent none ends run accepts =
     let whole = ends_whole r.bytes given before came none ends in
     record {
       root = whole.0;
-      ids_are = accepts given whole.0 run (whole.1 ∙ ap (λ es. given ++ es) (sym e));
+      ids_are = accepts program given whole.0 run (whole.1 ∙ ap (λ es. given ++ es) (sym e));
       spent = spent;
       verdict = of_all_left least left now reader given (IsTree whole.0) r spent whole.2;
     }

@@ -15,6 +15,8 @@ use Rattle.px_feed.specs.Items.{Item}
 use Rattle.px_feed.specs.Outputs.{Ask, AllAsk, Out, history_behind, lines_for, text_of}
 use Rattle.px_feed.specs.Taking as taking
 use Rattle.px_feed.specs.Taking.{HasTaken}
+use Rattle.px_machine.specs.declared.machine.Machine.{Machine}
+use Rattle.px_machine.specs.Machines.{HasRun}
 use Rattle.px_workload.specs.declared.change.Change.{Change}
 use Rattle.px_workload.specs.Changes.{history}
 use Rattle.px_xpath.specs.declared.numbered.Numbered.{Numbered}
@@ -127,6 +129,16 @@ pub record IsCompiled (program : Automata) (changes : List Change) : Type 0 wher
   pub filters : List Numbered
   pub program_is : program ≡ automata (subscriptions filters)
   pub filters_are : subscriptions filters ≡ live (history changes)
+
+-- The machine stands before a document, with the program of the filters that are live behind the changes.
+pub record IsReady (machine : Machine) (changes : List Change) : Type 0 where
+  pub program : Automata
+  pub before : HasRun machine program []
+  pub compiled : IsCompiled program changes
+
+-- Where it stood before a document, it stands before the next, with the same program.
+abbrev pub StaysReady : (old new : Machine) → Type 0
+StaysReady old new = (program : Automata) → HasRun old program [] → HasRun new program []
 
 -- Where there are as many changes as before, the history is the same: only a change that is accepted makes another.
 abbrev pub Keeps : (before after : List Change) → Type 0

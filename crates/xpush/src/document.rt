@@ -6,15 +6,16 @@ ghost use Rattle.px_io.specs.Flows.{IsSpent};
 ghost use Rattle.px_reader.specs.declared.event.Event.{Event as Happened};
 ghost use Rattle.px_reader.specs.declared.fault.DocFault.{DocFault};
 ghost use Rattle.px_reader.specs.Reading.{HasRead};
-ghost use Rattle.px_runner.specs.Running.{HasRun};
+ghost use Rattle.px_afa.specs.Building.{Automata};
+ghost use Rattle.px_machine.specs.Machines.{HasRun};
 ghost use Rattle.xpush.specs.Documents.{Reads, IsAtEnd, GivesIds, GivesFault};
 
 use crate::running::{ids_behind, take_all};
 use crate::stop::Stop;
 use px_afa::Program;
 use px_io::{ReadAnswer, Source};
+use px_machine::Machine;
 use px_reader::{Event, Reader};
-use px_runner::{Memo, Runner};
 use px_text::Ids;
 use std::alloc::{AllocError, Global};
 
@@ -28,27 +29,21 @@ const MOST_READS: u32 = 16_777_217;
 /// The ids of the program's filters that the document left in the source matches. The source is
 /// read to its end, or to where the document's fault shows. The events of each piece are given to
 /// the machine as they come.
-pub fn ids_in<S: Source, M: Memo>(
-    alloc: Global,
-    source: &mut S,
-    program: &Program,
-    memo: &mut M,
-) -> Result<Ids, Stop>
-    requires program { M.states memo.old ≡ program.now.states }
+pub fn ids_in<S: Source>(alloc: Global, source: &mut S, program: &Program) -> Result<Ids, Stop>
     ensures ids { IfOk result (λ ids. GivesIds program.now (S.left source.old) (S.left source.new) ids) }
     ensures fault { (fault : DocFault) → result ≡ Err (Stop.Doc fault) → GivesFault (S.left source.old) (S.left source.new) fault }
     ensures failed { result ≡ Err Stop.Source → Rose (S.faults source.old) (S.faults source.new) }
     ensures never_falls { S.faults source.old ≤ S.faults source.new }
 {
     let mut reader = Reader::new(alloc)?;
-    let mut runner = Runner::new(alloc, program, memo)?;
+    let mut machine = Machine::new(alloc, program)?;
     let mut events = Vec::new(alloc);
     let mut storage = zeros(alloc, BUFFER)?;
     let buffer = storage.as_mut_slice();
     for _ in 0..MOST_READS {
         match read_piece(source, buffer, &mut reader, &mut events) {
-            Ok(false) => take_all(&mut runner, program, memo, events.as_slice())?,
-            Ok(true) => return finish(alloc, reader, events, runner, program, memo),
+            Ok(false) => take_all(&mut machine, events.as_slice())?,
+            Ok(true) => return finish(reader, events, &mut machine),
             Err(stop) => return Err(stop),
         }
     }
@@ -90,25 +85,21 @@ fn read_piece<S: Source>(
 }
 
 /// Ends the document: the ids, or its fault.
-fn finish<M: Memo>(
-    alloc: Global,
+fn finish(
     mut reader: Reader,
     mut events: Vec<Event>,
-    runner: Runner,
-    program: &Program,
-    memo: &mut M,
+    machine: &mut Machine<'_>,
 ) -> Result<Ids, Stop>
-    requires program { M.states memo.old ≡ program.now.states }
-    requires run { (bytes : List ℕ) × (given : List Happened) × HasRead reader bytes given × HasRun M.states M.stands_for memo.old runner program.now given }
-    ensures ids { (least : ℕ) (left now : Option (List ℕ)) (given : List Happened) → Reads least left now reader given → IsSpent now →
-        HasRun M.states M.stands_for memo.old runner program.now given → IfOk result (λ ids. GivesIds program.now left now ids) }
+    requires run { (program : Automata) × (bytes : List ℕ) × (given : List Happened) × HasRead reader bytes given × HasRun machine.old program given }
+    ensures ids { (program : Automata) (least : ℕ) (left now : Option (List ℕ)) (given : List Happened) → Reads least left now reader given → IsSpent now →
+        HasRun machine.old program given → IfOk result (λ ids. GivesIds program left now ids) }
     ensures fault { (least : ℕ) (left now : Option (List ℕ)) (given : List Happened) → Reads least left now reader given → IsSpent now →
         (fault : DocFault) → result ≡ Err (Stop.Doc fault) → GivesFault left now fault }
     ensures not_read { result ≡ Err Stop.Source → ⊥ }
 {
     events.clear();
     match reader.end(&mut events) {
-        Ok(()) => match ids_behind(alloc, runner, program, memo, events.as_slice()) {
+        Ok(()) => match ids_behind(machine, events.as_slice()) {
             Ok(ids) => Ok(ids),
             Err(_) => Err(Stop::Memory),
         },

@@ -18,7 +18,6 @@ use crate::stop::{Cut, Stop};
 use px_afa::Program;
 use px_feed::{FeedFault, FeedKind, OutLine, Status, line_of};
 use px_io::{Sink, Source};
-use px_runner::PrivateMemo;
 use px_text::Ids;
 use px_xpath::{Filter, Numbered, ParseFault, parse};
 use std::alloc::Global;
@@ -107,8 +106,7 @@ fn ids_under<S: Source>(alloc: Global, filter: Filter, source: &mut S) -> Result
 {
     let only = [Numbered { id: 1, filter }];
     let program = Program::build(alloc, &only)?;
-    let mut memo = PrivateMemo::new(alloc, &program)?;
-    ids_in(alloc, source, &program, &mut memo)
+    ids_in(alloc, source, &program)
 }
 
 /// The line for a document whose reading was stopped.

@@ -1,73 +1,51 @@
 //! The machine over the events of a document as they come.
 
-ghost use Rattle.std.specs.Prelude.{◌≡◌, ◌+◌, ◌<◌, ◌^◌, ◌++◌, List, length, IfOk, OnOk};
+ghost use Rattle.std.specs.Prelude.{◌≡◌, ◌++◌, List, [], IfOk, OnOk};
 ghost use Rattle.px_text.specs.Nodes.{Root};
 ghost use Rattle.px_reader.specs.Spelling.{events_of};
 ghost use Rattle.px_reader.specs.declared.event.Event.{Event as Happened};
-ghost use Rattle.px_runner.specs.Running.{HasRun};
+ghost use Rattle.px_afa.specs.Building.{Automata};
+ghost use Rattle.px_machine.specs.Machines.{HasRun, program_of};
 ghost use Rattle.xpush.specs.Verdicts.{ids_accepted};
 
-use px_afa::Program;
+use px_machine::Machine;
 use px_reader::{Event, EventList};
-use px_runner::{Memo, Runner};
 use px_text::Ids;
-use std::alloc::{AllocError, Global};
+use std::alloc::AllocError;
 
-/// Gives the runner the events that come next, in order. It takes memory as the runner and the memo
-/// need it, and fails only where that is refused. The runner may then only be dropped.
-pub fn take_all<M: Memo>(
-    runner: &mut Runner,
-    program: &Program,
-    memo: &mut M,
-    events: &[Event],
-) -> Result<(), AllocError>
-    requires program { M.states memo.old ≡ program.now.states }
-    requires begun { (given : List Happened) × HasRun M.states M.stands_for memo.old runner.old program.now given × (length given + length events.now < 2 ^ 60) }
-    ensures ok { OnOk result ((given : List Happened) → HasRun M.states M.stands_for memo.old runner.old program.now given →
-        HasRun M.states M.stands_for memo.new runner.new program.now (given ++ events.now)) }
-    ensures same { M.states memo.new ≡ M.states memo.old }
+/// Gives the machine the events that come next, in order. It takes memory as the machine needs it,
+/// and fails only where that is refused. The machine may then only be dropped, or restarted.
+pub fn take_all(machine: &mut Machine<'_>, events: &[Event]) -> Result<(), AllocError>
+    requires begun { (program : Automata) × (given : List Happened) × HasRun machine.old program given }
+    ensures ok { OnOk result ((program : Automata) (given : List Happened) → HasRun machine.old program given → HasRun machine.new program (given ++ events.now)) }
+    ensures same { program_of machine.new ≡ program_of machine.old }
 {
     for next in events {
-        runner.event(program, next.seen(), memo)?;
+        machine.event(next.seen())?;
     }
     Ok(())
 }
 
 /// The same with the events of a list.
-pub fn take_listed<M: Memo>(
-    runner: &mut Runner,
-    program: &Program,
-    memo: &mut M,
-    events: &EventList,
-) -> Result<(), AllocError>
-    requires program { M.states memo.old ≡ program.now.states }
-    requires begun { (given : List Happened) × HasRun M.states M.stands_for memo.old runner.old program.now given × (length given + length events.now < 2 ^ 60) }
-    ensures ok { OnOk result ((given : List Happened) → HasRun M.states M.stands_for memo.old runner.old program.now given →
-        HasRun M.states M.stands_for memo.new runner.new program.now (given ++ events.now)) }
-    ensures same { M.states memo.new ≡ M.states memo.old }
+pub fn take_listed(machine: &mut Machine<'_>, events: &EventList) -> Result<(), AllocError>
+    requires begun { (program : Automata) × (given : List Happened) × HasRun machine.old program given }
+    ensures ok { OnOk result ((program : Automata) (given : List Happened) → HasRun machine.old program given → HasRun machine.new program (given ++ events.now)) }
+    ensures same { program_of machine.new ≡ program_of machine.old }
 {
     for place in 0..events.len() {
-        runner.event(program, events.get(place), memo)?;
+        machine.event(events.get(place))?;
     }
     Ok(())
 }
 
 /// The ids of the filters that hold of a document, when these last events of it have been taken
-/// as well.
-pub fn ids_behind<M: Memo>(
-    alloc: Global,
-    mut runner: Runner,
-    program: &Program,
-    memo: &mut M,
-    events: &[Event],
-) -> Result<Ids, AllocError>
-    requires program { M.states memo.old ≡ program.now.states }
-    requires last { (given : List Happened) × (root : Root) × HasRun M.states M.stands_for memo.old runner program.now given
-        × (events_of root ≡ given ++ events.now) × (length given + length events.now < 2 ^ 60) }
-    ensures ids { IfOk result (λ ids. (given : List Happened) (root : Root) → HasRun M.states M.stands_for memo.old runner program.now given →
-        events_of root ≡ given ++ events.now → ids ≡ ids_accepted program.now root) }
-    ensures same { M.states memo.new ≡ M.states memo.old }
+/// as well. The machine is then before the next document.
+pub fn ids_behind(machine: &mut Machine<'_>, events: &[Event]) -> Result<Ids, AllocError>
+    requires last { (program : Automata) × (given : List Happened) × (root : Root) × HasRun machine.old program given × (events_of root ≡ given ++ events.now) }
+    ensures ids { IfOk result (λ ids. (program : Automata) (given : List Happened) (root : Root) → HasRun machine.old program given →
+        events_of root ≡ given ++ events.now → ids ≡ ids_accepted program root) }
+    ensures ready { OnOk result (HasRun machine.new (program_of machine.old) []) }
 {
-    take_all(&mut runner, program, memo, events)?;
-    runner.finish(alloc, program, memo)
+    take_all(machine, events)?;
+    machine.finish()
 }

@@ -8,7 +8,7 @@ ghost use Rattle.px_feed.specs.Items.{Showing};
 ghost use Rattle.xpush.specs.Answers.{Served, ServedWhole, WritesFront, is_finished, is_cut_short};
 ghost use Rattle.xpush.specs.Forms.{Serves};
 ghost use Rattle.xpush.specs.Replying.{Answered};
-ghost use Rattle.xpush.specs.Standing.{Streams, streams, Rests, Holds, Ended, TakesNext, TakesUp, ServesItem, Replies, SaysLine, IsCompiled, Keeps};
+ghost use Rattle.xpush.specs.Standing.{Streams, streams, Rests, Holds, Ended, TakesNext, TakesUp, ServesItem, Replies, SaysLine, IsCompiled, IsReady, StaysReady, Keeps};
 ghost use Rattle.xpush.specs.Verdicts.{IsOf};
 
 use crate::changes::{add, remove, replace};
@@ -17,8 +17,8 @@ use crate::outgoing::Outgoing;
 use px_afa::Program;
 use px_feed::{Item, Items, OutLine, Status, Taken};
 use px_io::{Sink, Source};
+use px_machine::Machine;
 use px_reader::Doc;
-use px_runner::{Memo, PrivateMemo};
 use px_text::Bytes;
 use px_workload::{Journal, live_filters_are_in_order};
 use std::alloc::{AllocError, Global};
@@ -200,24 +200,22 @@ impl Serving {
         let Ok(program) = self.program() else {
             return Err(Status::Memory);
         };
-        let Ok(mut memo) = PrivateMemo::new(self.alloc, &program) else {
+        let Ok(mut machine) = Machine::new(self.alloc, &program) else {
             return Err(Status::Memory);
         };
-        self.filter_by(&program, &mut memo, doc, source, sink)
+        self.filter_by(&mut machine, doc, source, sink)
     }
 
-    /// Answers a document and the items that follow it, so many at most, with the program of the
+    /// Answers a document and the items that follow it, so many at most, with the machine of the
     /// live filters, up to the next change that is accepted. A refused one leaves the machine warm.
-    fn filter_by<S: Source, K: Sink, M: Memo>(
+    fn filter_by<S: Source, K: Sink>(
         &mut self,
-        program: &Program,
-        memo: &mut M,
+        machine: &mut Machine<'_>,
         doc: Doc,
         source: &mut S,
         sink: &mut K,
     ) -> Result<Item, Status>
-        requires program { M.states memo.old ≡ program.now.states }
-        requires compiled { IsCompiled program.now self.old.journal.changes }
+        requires ready { IsReady machine.old self.old.journal.changes }
         ensures serves { ServesItem (items.Document doc) result self.old self.new
             (streams (S.left source.old) (K.held sink.old) (S.faults source.old)) (streams (S.left source.new) (K.held sink.new) (S.faults source.new)) }
         ensures write_fault { result ≡ Err Status.WriteFault → Rose (K.faults sink.old) (K.faults sink.new) }
@@ -227,7 +225,7 @@ impl Serving {
         let version = self.journal.version();
         let mut item = Item::Document { doc };
         for _ in 0..MOST_ITEMS {
-            match self.serve_by(program, memo, item, source, sink) {
+            match self.serve_by(machine, item, source, sink) {
                 Ok(next) if self.journal.version() == version => item = next,
                 other => return other,
             }
@@ -235,20 +233,18 @@ impl Serving {
         Ok(item)
     }
 
-    /// Answers an item, a document with the program of the live filters, and takes the next one.
-    fn serve_by<S: Source, K: Sink, M: Memo>(
+    /// Answers an item, a document with the machine of the live filters, and takes the next one.
+    fn serve_by<S: Source, K: Sink>(
         &mut self,
-        program: &Program,
-        memo: &mut M,
+        machine: &mut Machine<'_>,
         item: Item,
         source: &mut S,
         sink: &mut K,
     ) -> Result<Item, Status>
-        requires program { M.states memo.old ≡ program.now.states }
-        requires compiled { IsCompiled program.now self.old.journal.changes }
+        requires ready { IsReady machine.old self.old.journal.changes }
         ensures serves { ServesItem item result self.old self.new
             (streams (S.left source.old) (K.held sink.old) (S.faults source.old)) (streams (S.left source.new) (K.held sink.new) (S.faults source.new)) }
-        ensures states { M.states memo.new ≡ M.states memo.old }
+        ensures ready { OnOk result (StaysReady machine.old machine.new) }
         ensures kept { OnOk result (Keeps self.old.journal.changes self.new.journal.changes) }
         ensures write_fault { result ≡ Err Status.WriteFault → Rose (K.faults sink.old) (K.faults sink.new) }
         ensures source_counts { S.faults source.old ≤ S.faults source.new }
@@ -258,46 +254,38 @@ impl Serving {
             Item::Add { text } => self.add(text, source, sink),
             Item::Remove { text } => self.remove(text, source, sink),
             Item::Replace { id, text } => self.replace(id, text, source, sink),
-            Item::Document { doc } => self.filter_one(program, memo, &doc, source, sink),
+            Item::Document { doc } => self.filter_one(machine, &doc, source, sink),
         }
     }
 
     /// Filters one document, and takes the next item.
-    fn filter_one<S: Source, K: Sink, M: Memo>(
+    fn filter_one<S: Source, K: Sink>(
         &mut self,
-        program: &Program,
-        memo: &mut M,
+        machine: &mut Machine<'_>,
         doc: &Doc,
         source: &mut S,
         sink: &mut K,
     ) -> Result<Item, Status>
-        requires program { M.states memo.old ≡ program.now.states }
-        requires compiled { IsCompiled program.now self.old.journal.changes }
+        requires ready { IsReady machine.old self.old.journal.changes }
         ensures serves { ServesItem (items.Document doc.now) result self.old self.new
             (streams (S.left source.old) (K.held sink.old) (S.faults source.old)) (streams (S.left source.new) (K.held sink.new) (S.faults source.new)) }
-        ensures states { M.states memo.new ≡ M.states memo.old }
+        ensures ready { OnOk result (StaysReady machine.old machine.new) }
         ensures journal { self.new.journal ≡ self.old.journal }
         ensures write_fault { result ≡ Err Status.WriteFault → Rose (K.faults sink.old) (K.faults sink.new) }
         ensures source_counts { S.faults source.old ≤ S.faults source.new }
         ensures sink_counts { K.faults sink.old ≤ K.faults sink.new }
     {
-        let line = self.line_of(program, memo, doc);
+        let line = self.line_of(machine, doc);
         self.reply(line, source, sink)
     }
 
     /// The line for a document.
-    fn line_of<M: Memo>(
-        &self,
-        program: &Program,
-        memo: &mut M,
-        doc: &Doc,
-    ) -> Result<OutLine, AllocError>
-        requires program { M.states memo.old ≡ program.now.states }
-        requires compiled { IsCompiled program.now self.now.journal.changes }
+    fn line_of(&self, machine: &mut Machine<'_>, doc: &Doc) -> Result<OutLine, AllocError>
+        requires ready { IsReady machine.old self.now.journal.changes }
         ensures line { (root : Root) → IsOf doc.now root → IfOk result (λ line. Answered (Showing root) self.now.journal.changes self.now.journal.changes line) }
-        ensures same { M.states memo.new ≡ M.states memo.old }
+        ensures ready { OnOk result (StaysReady machine.old machine.new) }
     {
-        let ids = ids_on(self.alloc, program, memo, doc)?;
+        let ids = ids_on(machine, doc)?;
         Ok(OutLine::Matched {
             version: self.journal.version(),
             ids,

@@ -1,19 +1,21 @@
--- The ids of the document, whose events the runner takes.
-use Rattle.std.proofs.Common.{List, [], subst, ◌+◌, ◌<◌, ◌≤◌, ◌^◌, length, arith}
+-- The ids of the document, whose events the machine takes.
+use Rattle.std.proofs.Common.{List, [], subst}
 use Rattle.px_reader.specs.declared.event.Event.{Event}
-use Rattle.px_runner.specs.Running.{HasRun}
-use Rattle.xpush.proofs.Taking.{doc_ids, few_events}
+use Rattle.px_machine.specs.Machines.{HasRun}
+use Rattle.xpush.proofs.Taking.{behind_ids, doc_ids}
 use Rattle.xpush.proofs.filtering.ids_on.Goals as goal
 
-pub take_listed-requires-clause-begun : goal.take_listed-requires-clause-begun
-take_listed-requires-clause-begun g c = ([], c.in_ok-runner.ensures.ok, few_events (length c.events.result.now) c.events.ensures.few)
+pub take_listed-requires : goal.take_listed-requires
+take_listed-requires c = let ready = c.requires.ready in record { begun = (ready.0, [], ready.1) }
 
-pub finish-requires-clause-whole : goal.finish-requires-clause-whole
-finish-requires-clause-whole g c =
-    let P : List Event → Type 0 = λ es. HasRun g.M.Memo.states g.M.Memo.stands_for c.take_listed.new.memo c.take_listed.new.runner c.args.program.now es in
-    (c.events.ensures.tree.root, subst P c.events.ensures.tree.events_are (c.in_ok-take_listed.ensures.ok [] c.in_ok-runner.ensures.ok))
+pub finish-requires : goal.finish-requires
+finish-requires c =
+    let ready = c.requires.ready in
+    let tree = c.events.ensures.tree in
+    let P : List Event → Type 0 = λ es. HasRun c.take_listed.new.machine ready.0 es in
+    record { whole = (ready.0, tree.root, subst P tree.events_are (c.in_ok-take_listed.ensures.ok ready.0 [] ready.1)) }
 
 pub returns-clause-ids : goal.returns-clause-ids
-returns-clause-ids g c =
-    doc_ids g.M.Memo.states g.M.Memo.stands_for c.take_listed.new.memo c.take_listed.new.runner c.args.program.now c.args.doc.now c.events.result.now c.finish.result
-    c.events.ensures.tree (c.in_ok-take_listed.ensures.ok [] c.in_ok-runner.ensures.ok) c.finish.ensures.accepted
+returns-clause-ids c =
+    doc_ids c.args.machine.now c.args.doc.now c.events.result.now c.finish.result c.events.ensures.tree
+    (behind_ids c.args.machine.now c.take_listed.new.machine c.events.result.now c.finish.result c.in_ok-take_listed.ensures.ok c.finish.ensures.accepted)

@@ -1,12 +1,12 @@
--- The runner has taken the events so far.
+-- The machine has taken the events so far.
 use Rattle.std.proofs.Common.{◌≡◌, ◌++◌, List, take}
 use Rattle.px_reader.specs.declared.event.Event.{Event}
-use Rattle.px_runner.specs.Running.{HasRun}
+use Rattle.px_afa.specs.Building.{Automata}
+use Rattle.px_machine.specs.Machines.{HasRun, program_of}
 use Rattle.xpush.proofs.running.take_all.Given as goal
 
 abbrev pub invariant-loop-next : goal.invariant-loop-next
-invariant-loop-next g l = record {
-  same : g.M.Memo.states l.memo ≡ g.M.Memo.states l.initial.memo;
-  run : (given : List Event) → HasRun g.M.Memo.states g.M.Memo.stands_for l.initial.memo l.initial.runner l.program given →
-      HasRun g.M.Memo.states g.M.Memo.stands_for l.memo l.runner l.program (given ++ take l.next-index l.events);
+invariant-loop-next l = record {
+  same : program_of l.machine ≡ program_of l.initial.machine;
+  run : (program : Automata) (given : List Event) → HasRun l.initial.machine program given → HasRun l.machine program (given ++ take l.next-index l.events);
 }

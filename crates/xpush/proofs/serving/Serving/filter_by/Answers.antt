@@ -1,9 +1,15 @@
 -- Item after item is answered, while the history is the same.
 use Rattle.std.proofs.Common.{◌+◌, ◌∙◌, sym, arith}
 use Rattle.xpush.specs.Standing.{streams}
+use Rattle.xpush.proofs.FeedPrograms.{ready_on}
 use Rattle.xpush.proofs.FeedRefusals.{goes_less, keeps_on}
 use Rattle.xpush.proofs.FeedTaking.{holds_less}
 use Rattle.xpush.proofs.serving.Serving.filter_by.Goals as goal
+
+pub serve_by-requires : goal.serve_by-requires
+serve_by-requires g c = record {
+  ready = ready_on c.args.machine.now c.loop.machine c.args.self.now.journal.changes c.loop.self.journal.changes c.requires.ready c.loop.invariant.ready c.loop.invariant.same;
+}
 
 pub loop-preserved : goal.loop-preserved
 loop-preserved g c =
@@ -11,7 +17,7 @@ loop-preserved g c =
     let before = c.args.self.now.journal.changes in
     let after = c.serve_by.new.self.journal.changes in
     record {
-      states = c.serve_by.ensures.states ∙ c.loop.invariant.states;
+      ready = λ program run. c.in-Ok.ensures.ready program (c.loop.invariant.ready program run);
       same = keeps_on before c.loop.self.journal.changes after c.loop.invariant.same c.in-Ok.ensures.kept lengths;
       holds = λ first least h.
           let now = streams (g.S.Source.left c.serve_by.new.source) (g.K.Sink.held c.serve_by.new.sink) (g.S.Source.faults c.serve_by.new.source) in

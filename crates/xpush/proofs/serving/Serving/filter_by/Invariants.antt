@@ -1,12 +1,12 @@
--- So many items were answered with one program of the live filters, and the next one is in hand.
+-- So many items were answered with one machine of the live filters, and the next one is in hand.
 use Rattle.std.proofs.Common.{◌≡◌, ℕ, ◌+◌, ◌≤◌}
 use Rattle.px_workload.specs.Changes.{history}
-use Rattle.xpush.specs.Standing.{Streams, streams, Holds}
+use Rattle.xpush.specs.Standing.{Streams, streams, Holds, StaysReady}
 use Rattle.xpush.proofs.serving.Serving.filter_by.Given as goal
 
 abbrev pub invariant-loop : goal.invariant-loop
 invariant-loop g l = record {
-  states : g.M.Memo.states l.memo ≡ g.M.Memo.states l.initial.memo;
+  ready : StaysReady l.initial.machine l.machine;
   same : history l.self.journal.changes ≡ history l.initial.self.journal.changes;
   holds : (first : Streams) (least : ℕ) →
       Holds l.initial.item l.initial.self first

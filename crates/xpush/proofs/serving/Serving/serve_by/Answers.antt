@@ -2,6 +2,7 @@
 use Rattle.std.proofs.Common.{ap, sym, subst}
 use Rattle.px_feed.specs.declared.item.Item.{Item}
 use Rattle.xpush.specs.Standing.{streams, ServesItem}
+use Rattle.xpush.proofs.FeedPrograms.{same_ready}
 use Rattle.xpush.proofs.FeedRefusals.{same_kept}
 use Rattle.xpush.proofs.serving.Serving.serve_by.Goals as goal
 
@@ -36,3 +37,12 @@ returns-in-Document-clause-serves g c =
 pub returns-in-Document-clause-kept : goal.returns-in-Document-clause-kept
 returns-in-Document-clause-kept g c =
     same_kept c.filter_one.result c.args.self.now.journal.changes c.filter_one.new.self.journal.changes (ap (λ j. j.changes) c.filter_one.ensures.journal)
+
+pub returns-in-Add-clause-ready : goal.returns-in-Add-clause-ready
+returns-in-Add-clause-ready g c = same_ready c.add.result c.args.machine.now
+
+pub returns-in-Remove-clause-ready : goal.returns-in-Remove-clause-ready
+returns-in-Remove-clause-ready g c = same_ready c.remove.result c.args.machine.now
+
+pub returns-in-Replace-clause-ready : goal.returns-in-Replace-clause-ready
+returns-in-Replace-clause-ready g c = same_ready c.replace.result c.args.machine.now
