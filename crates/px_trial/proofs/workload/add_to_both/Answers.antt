@@ -19,8 +19,10 @@ take-requires-clause-next c =
     (may_add _ _ c.args.filter c.reserve.ensures.same c.has_room.ensures.legal room.small room.version)
     c.reserve.ensures.same c.append-version.ensures.accepted c.append-version.ensures.version (ap subscriptions c.reserve-2.ensures.same ∙ c.requires.lists)
 
-pub returns-clause-lists : goal.returns-clause-lists
-returns-clause-lists c =
-    stays_listed c.args.journal.now.changes c.reserve.new.self.changes c.append-version.new.self.changes c.reserve-2.new.self.filters c.take.new.self.filters (Add 0 c.args.filter)
-    (change c.in_ok-shared.shared) c.append-version.result c.reserve.ensures.same c.append-version.ensures.accepted c.append-version.ensures.version
-    c.in_ok-shared.ensures.same (ap subscriptions c.reserve-2.ensures.same ∙ c.requires.lists) c.take.ensures.taken
+pub returns : goal.returns
+returns c = record {
+  lists =
+      stays_listed c.args.journal.now.changes c.reserve.new.self.changes c.append-version.new.self.changes c.reserve-2.new.self.filters c.take.new.self.filters (Add 0 c.args.filter)
+      (change c.in_ok-shared.shared) c.append-version.result c.reserve.ensures.same c.append-version.ensures.accepted c.append-version.ensures.version
+      c.in_ok-shared.ensures.same (ap subscriptions c.reserve-2.ensures.same ∙ c.requires.lists) c.take.ensures.taken;
+}

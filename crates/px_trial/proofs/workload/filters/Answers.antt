@@ -1,5 +1,5 @@
 -- The live filters of a journal are in order.
-use Rattle.std.proofs.Common.{List, map, sym, subst}
+use Rattle.std.proofs.Common.{List, sym, subst}
 use Rattle.px_afa.specs.Sound.{AreLive}
 use Rattle.px_xpath.specs.Histories.{Subscription}
 use Rattle.px_trial.proofs.Legal.{is_live}
