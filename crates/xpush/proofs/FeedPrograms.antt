@@ -46,7 +46,7 @@ ends_ready old new run program before = let P : Automata → Type 0 = λ p. HasR
 pub ready_behind : {A B E F : Type 0} (line : Result A E) (next : Result B F) (old new : Machine) → OnOk line (StaysReady old new) → OnOk next (IsOk line) → OnOk next (StaysReady old new)
 ready_behind (Ok x) (Ok y) old new h spoken = h
 ready_behind (Ok x) (Err y) old new h spoken = tt
-ready_behind (Err x) (Ok y) old new h spoken = absurd spoken
+ready_behind (Err x) (Ok y) old new h spoken = absurd (cc)
 ready_behind (Err x) (Err y) old new h spoken = tt
 
 pub same_ready : {A E : Type 0} (next : Result A E) (machine : Machine) → OnOk next (StaysReady machine machine)

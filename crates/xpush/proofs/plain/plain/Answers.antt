@@ -1,8 +1,9 @@
 -- The command is what the words say.
 use Rattle.px_options.specs.OptionAnswers.{texts}
-use Rattle.xpush.proofs.Saying.{of_form, in_form}
+use Rattle.xpush.proofs.Lines.{wrote_nothing}
+use Rattle.xpush.proofs.Saying.{of_any, of_form, in_form}
 use Rattle.xpush.specs.Answers.{Answers, WritesFront, WritesWhole}
-use Rattle.xpush.specs.Forms.{Form, form}
+use Rattle.xpush.specs.Forms.{Form, form, form_of}
 use Rattle.xpush.proofs.plain.plain.Goals as goal
 
 pub returns-in-Ok-clause-usage : goal.returns-in-Ok-clause-usage
@@ -33,3 +34,9 @@ returns-in-Ok-clause-whole_items g c = λ e.
     WritesWhole said (g.S.Source.left c.args.source.now) (g.S.Source.left c.run_command.new.source) (g.K.Sink.held c.args.sink.now)
     (g.K.Sink.held c.run_command.new.sink) in
     of_form (texts c.args.words.now) (form c.in-Ok.command) P c.in-Ok.ensures (c.run_command.ensures.whole_items e)
+
+pub returns-in-Err-Memory-clause-front : goal.returns-in-Err-Memory-clause-front
+returns-in-Err-Memory-clause-front g c = λ t.
+    let left = g.S.Source.left c.args.source.now in
+    let held = g.K.Sink.held c.args.sink.now in
+    of_any (form_of (texts c.args.words.now)) (λ said. WritesFront said left held held) (λ said. wrote_nothing said left held)

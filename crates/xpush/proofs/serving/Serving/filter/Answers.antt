@@ -13,6 +13,3 @@ pub returns-in_default-new-clause-serves : goal.returns-in_default-new-clause-se
 returns-in_default-new-clause-serves g c = λ first least h.
     let now = streams (g.S.Source.left c.args.source.now) (g.K.Sink.held c.args.sink.now) (g.S.Source.faults c.args.source.now) in
     holds_memory (items.Document c.args.doc) c.args.self.now first now least h
-
-pub filter_by-requires : goal.filter_by-requires
-filter_by-requires g c = record { ready = record { program = c.in_ok-program.program.now; before = c.in_ok-machine.ensures.new; compiled = c.in_ok-program.ensures.compiled } }
