@@ -1,6 +1,7 @@
 #!/usr/bin/env bash
-# Tries the built programs: the examples of the README, the longest history, libxml2's XPath on
-# generated cases, and the machine beside the plain evaluator.
+# Tries the built programs: the examples of the README, the longest history, each allocation of small
+# runs refused, libxml2's XPath on generated cases, and the machine beside the plain evaluator.
 cd "$(dirname "$0")/.." || exit 1
 ./xpush show /a >/dev/null || exit 1
-tools/check_readme.py && tools/check_limits.py && tools/compare_xpath.py && tools/compare_machine.py
+tools/check_readme.py && tools/check_limits.py && tools/try_refused_growths.py &&
+    tools/compare_xpath.py && tools/compare_machine.py
