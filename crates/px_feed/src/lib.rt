@@ -1,8 +1,17 @@
-//! What a feed asks and what is answered: the lines that are written.
+//! Feeds: what their lines ask, and the lines that answer.
+//!
+//! [`Items`] reads a feed from a source and gives one [`Item`] after the other: a change of the
+//! subscriptions, or a document with the events of its tree. It holds one document and one piece of
+//! the source, and says at the end whether the feed ended well, at which line it is faulty, or what
+//! failed ([`Taken`]). `ready` gives what the bytes read so far hold, and `next` reads on for it.
 //!
 //! An [`OutLine`] is the answer to one item of a feed, or to the one document of a match; its
 //! text is that of its `Display`, and [`line_of`] gives it with its line feed. A [`Status`] is how
 //! a run of the program ends. [`generate`] gives feeds of any size, for trials.
+//!
+//! What the output of a whole feed is stands in `specs/`: `Items` says which items some bytes are,
+//! `Outputs` which lines answer them. The laws say that each feed has one list of items and one
+//! output.
 #![tactic(auto)]
 
 mod cutter;
