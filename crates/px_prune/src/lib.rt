@@ -4,11 +4,13 @@
 //! body of each state looks at is computed once for a program.
 #![tactic(auto)]
 
+mod compiled;
 mod firsts;
 mod needs;
 mod pushing;
 mod rows;
 
+pub use compiled::Compiled;
 pub use firsts::first;
 pub use needs::Needs;
 pub use pushing::push;
