@@ -1,6 +1,7 @@
 //! The machine over the events of documents, one after the other.
 
 ghost use Rattle.std.specs.Prelude.{◌≡◌, ◌≤◌, ℕ, List, [], ◌∷◌, ◌++◌, IfOk, OnOk, length};
+ghost use Rattle.std.specs.Arc.{arc_value};
 ghost use Rattle.px_text.specs.Nodes.{Root};
 ghost use Rattle.px_reader.specs.Spelling.{events_of};
 ghost use Rattle.px_reader.specs.declared.event.Event.{Event as Happened};
@@ -16,11 +17,12 @@ ghost use Rattle.px_machine.specs.Machines.{IsAt, HasRun, program_of, given_numb
 
 use crate::facts::Facts;
 use crate::frame::Frame;
-use px_afa::Program;
+use px_prune::Compiled;
 use px_reader::Happening;
 use px_text::Ids;
 use std::alloc::{AllocError, Global};
 use std::mem;
+use std::sync::Arc;
 
 // For how many open elements, sets and bytes of text there is room at first.
 const FIRST_ROOM: usize = 64;
@@ -30,8 +32,8 @@ const MOST_SETS: usize = 1_000_000;
 
 /// The machine of a program, before a document or in the midst of one.
 #[derive(Drop)]
-pub struct Machine<'p> {
-    facts: Facts<'p>,
+pub struct Machine {
+    facts: Facts,
     // the innermost open element, or the document root where no element is open
     innermost: Frame,
     // those round it, the document root first
@@ -42,14 +44,14 @@ pub struct Machine<'p> {
     text: Vec<u8>,
 }
 
-impl<'p> Machine<'p> {
+impl Machine {
     /// A machine before the first event of a document. It takes memory for a few open elements and
     /// a short text, and fails only where that is refused.
-    pub fn new(alloc: Global, program: &'p Program) -> Result<Machine<'p>, AllocError>
-        ensures new { IfOk result (λ machine. HasRun machine program.now []) }
+    pub fn new(alloc: Global, compiled: Arc<Compiled>) -> Result<Machine, AllocError>
+        ensures new { IfOk result (λ machine. HasRun machine (arc_value compiled) []) }
     {
         Ok(Machine {
-            facts: Facts::new(alloc, program),
+            facts: Facts::new(alloc, compiled),
             innermost: ground_frame(),
             outer: Vec::with_capacity(alloc, FIRST_ROOM)?,
             gathered: Vec::with_capacity(alloc, FIRST_ROOM)?,
@@ -106,11 +108,13 @@ impl<'p> Machine<'p> {
         ensures same { program_of self.new ≡ program_of self.old }
         ensures ok { OnOk result ((opened : Opened) → IsAt self.old opened → IsAt self.new (after_event (program_of self.old).states opened (event_of next.entry))) }
     {
-        let program = self.facts.program();
         match next {
-            Happening::Start { name } => self.start(program.label_of_element(name)),
+            Happening::Start { name } => {
+                let label = self.facts.program().label_of_element(name);
+                self.start(label)
+            }
             Happening::Attr { name, value } => {
-                let label = program.label_of_attribute(name);
+                let label = self.facts.program().label_of_attribute(name);
                 self.leaf(label, value, b"")
             }
             Happening::Text { text } => self.leaf(0, text, text),

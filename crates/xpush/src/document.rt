@@ -1,6 +1,7 @@
 //! The machine over one document, to the end of input.
 
 ghost use Rattle.std.specs.Prelude.{◌≡◌, ◌<◌, ◌≤◌, ◌+◌, ◌++◌, IfOk, Ok, Err, Option, List, ℕ, true, false, length};
+ghost use Rattle.std.specs.Arc.{arc_value};
 ghost use Rattle.px_io.specs.Faults.{Rose};
 ghost use Rattle.px_io.specs.Flows.{IsSpent};
 ghost use Rattle.px_reader.specs.declared.event.Event.{Event as Happened};
@@ -12,12 +13,13 @@ ghost use Rattle.xpush.specs.Documents.{Reads, IsAtEnd, GivesIds, GivesFault};
 
 use crate::running::{ids_behind, take_all};
 use crate::stop::Stop;
-use px_afa::Program;
 use px_io::{ReadAnswer, Source};
 use px_machine::Machine;
+use px_prune::Compiled;
 use px_reader::{Event, Reader};
 use px_text::Ids;
 use std::alloc::{AllocError, Global};
+use std::sync::Arc;
 
 /// How many bytes are read at once.
 const BUFFER: usize = 65_536;
@@ -29,14 +31,18 @@ const MOST_READS: u32 = 16_777_217;
 /// The ids of the program's filters that the document left in the source matches. The source is
 /// read to its end, or to where the document's fault shows. The events of each piece are given to
 /// the machine as they come.
-pub fn ids_in<S: Source>(alloc: Global, source: &mut S, program: &Program) -> Result<Ids, Stop>
-    ensures ids { IfOk result (λ ids. GivesIds program.now (S.left source.old) (S.left source.new) ids) }
+pub fn ids_in<S: Source>(
+    alloc: Global,
+    source: &mut S,
+    compiled: Arc<Compiled>,
+) -> Result<Ids, Stop>
+    ensures ids { IfOk result (λ ids. GivesIds (arc_value compiled) (S.left source.old) (S.left source.new) ids) }
     ensures fault { (fault : DocFault) → result ≡ Err (Stop.Doc fault) → GivesFault (S.left source.old) (S.left source.new) fault }
     ensures failed { result ≡ Err Stop.Source → Rose (S.faults source.old) (S.faults source.new) }
     ensures never_falls { S.faults source.old ≤ S.faults source.new }
 {
     let mut reader = Reader::new(alloc)?;
-    let mut machine = Machine::new(alloc, program)?;
+    let mut machine = Machine::new(alloc, compiled)?;
     let mut events = Vec::new(alloc);
     let mut storage = zeros(alloc, BUFFER)?;
     let buffer = storage.as_mut_slice();
@@ -85,11 +91,7 @@ fn read_piece<S: Source>(
 }
 
 /// Ends the document: the ids, or its fault.
-fn finish(
-    mut reader: Reader,
-    mut events: Vec<Event>,
-    machine: &mut Machine<'_>,
-) -> Result<Ids, Stop>
+fn finish(mut reader: Reader, mut events: Vec<Event>, machine: &mut Machine) -> Result<Ids, Stop>
     requires run { (program : Automata) × (bytes : List ℕ) × (given : List Happened) × HasRead reader bytes given × HasRun machine.old program given }
     ensures ids { (program : Automata) (least : ℕ) (left now : Option (List ℕ)) (given : List Happened) → Reads least left now reader given → IsSpent now →
         HasRun machine.old program given → IfOk result (λ ids. GivesIds program left now ids) }

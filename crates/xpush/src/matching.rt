@@ -18,6 +18,7 @@ use crate::stop::{Cut, Stop};
 use px_afa::Program;
 use px_feed::{FeedFault, FeedKind, OutLine, Status, line_of};
 use px_io::{Sink, Source};
+use px_prune::Compiled;
 use px_text::Ids;
 use px_xpath::{Filter, Numbered, ParseFault, parse};
 use std::alloc::Global;
@@ -106,7 +107,8 @@ fn ids_under<S: Source>(alloc: Global, filter: Filter, source: &mut S) -> Result
 {
     let only = [Numbered { id: 1, filter }];
     let program = Program::build(alloc, &only)?;
-    ids_in(alloc, source, &program)
+    let compiled = Compiled::of(alloc, program)?;
+    ids_in(alloc, source, compiled)
 }
 
 /// The line for a document whose reading was stopped.

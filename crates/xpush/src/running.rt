@@ -15,7 +15,7 @@ use std::alloc::AllocError;
 
 /// Gives the machine the events that come next, in order. It takes memory as the machine needs it,
 /// and fails only where that is refused. The machine may then only be dropped, or restarted.
-pub fn take_all(machine: &mut Machine<'_>, events: &[Event]) -> Result<(), AllocError>
+pub fn take_all(machine: &mut Machine, events: &[Event]) -> Result<(), AllocError>
     requires begun { (program : Automata) × (given : List Happened) × HasRun machine.old program given }
     ensures ok { OnOk result ((program : Automata) (given : List Happened) → HasRun machine.old program given → HasRun machine.new program (given ++ events.now)) }
     ensures same { program_of machine.new ≡ program_of machine.old }
@@ -27,7 +27,7 @@ pub fn take_all(machine: &mut Machine<'_>, events: &[Event]) -> Result<(), Alloc
 }
 
 /// The same with the events of a list.
-pub fn take_listed(machine: &mut Machine<'_>, events: &EventList) -> Result<(), AllocError>
+pub fn take_listed(machine: &mut Machine, events: &EventList) -> Result<(), AllocError>
     requires begun { (program : Automata) × (given : List Happened) × HasRun machine.old program given }
     ensures ok { OnOk result ((program : Automata) (given : List Happened) → HasRun machine.old program given → HasRun machine.new program (given ++ events.now)) }
     ensures same { program_of machine.new ≡ program_of machine.old }
@@ -40,7 +40,7 @@ pub fn take_listed(machine: &mut Machine<'_>, events: &EventList) -> Result<(), 
 
 /// The ids of the filters that hold of a document, when these last events of it have been taken
 /// as well. The machine is then before the next document.
-pub fn ids_behind(machine: &mut Machine<'_>, events: &[Event]) -> Result<Ids, AllocError>
+pub fn ids_behind(machine: &mut Machine, events: &[Event]) -> Result<Ids, AllocError>
     requires last { (program : Automata) × (given : List Happened) × (root : Root) × HasRun machine.old program given × (events_of root ≡ given ++ events.now) }
     ensures ids { IfOk result (λ ids. (program : Automata) (given : List Happened) (root : Root) → HasRun machine.old program given →
         events_of root ≡ given ++ events.now → ids ≡ ids_accepted program root) }

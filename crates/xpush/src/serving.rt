@@ -1,6 +1,7 @@
 //! The command `serial`: what a feed is answered, on one thread.
 
 ghost use Rattle.std.specs.Prelude.{◌≡◌, ◌≤◌, Err, IsTrue, IfOk, IsOk, OnOk};
+ghost use Rattle.std.specs.Arc.{arc_value};
 ghost use Rattle.px_io.specs.Faults.{Rose};
 ghost use Rattle.px_text.specs.Nodes.{Root};
 ghost use Rattle.px_feed.specs.declared.item.Item.TheVariants as items;
@@ -18,10 +19,12 @@ use px_afa::Program;
 use px_feed::{Item, Items, OutLine, Status, Taken};
 use px_io::{Sink, Source};
 use px_machine::Machine;
+use px_prune::Compiled;
 use px_reader::Doc;
 use px_text::Bytes;
 use px_workload::{Journal, live_filters_are_in_order};
 use std::alloc::{AllocError, Global};
+use std::sync::Arc;
 
 /// A feed has at most so many bytes, and each item takes one at least.
 const MOST_ITEMS: u64 = 1_099_511_627_776;
@@ -197,10 +200,10 @@ impl Serving {
         ensures source_counts { S.faults source.old ≤ S.faults source.new }
         ensures sink_counts { K.faults sink.old ≤ K.faults sink.new }
     {
-        let Ok(program) = self.program() else {
+        let Ok(compiled) = self.compiled() else {
             return Err(Status::Memory);
         };
-        let Ok(mut machine) = Machine::new(self.alloc, &program) else {
+        let Ok(mut machine) = Machine::new(self.alloc, compiled) else {
             return Err(Status::Memory);
         };
         self.filter_by(&mut machine, doc, source, sink)
@@ -210,7 +213,7 @@ impl Serving {
     /// live filters, up to the next change that is accepted. A refused one leaves the machine warm.
     fn filter_by<S: Source, K: Sink>(
         &mut self,
-        machine: &mut Machine<'_>,
+        machine: &mut Machine,
         doc: Doc,
         source: &mut S,
         sink: &mut K,
@@ -236,7 +239,7 @@ impl Serving {
     /// Answers an item, a document with the machine of the live filters, and takes the next one.
     fn serve_by<S: Source, K: Sink>(
         &mut self,
-        machine: &mut Machine<'_>,
+        machine: &mut Machine,
         item: Item,
         source: &mut S,
         sink: &mut K,
@@ -261,7 +264,7 @@ impl Serving {
     /// Filters one document, and takes the next item.
     fn filter_one<S: Source, K: Sink>(
         &mut self,
-        machine: &mut Machine<'_>,
+        machine: &mut Machine,
         doc: &Doc,
         source: &mut S,
         sink: &mut K,
@@ -280,7 +283,7 @@ impl Serving {
     }
 
     /// The line for a document.
-    fn line_of(&self, machine: &mut Machine<'_>, doc: &Doc) -> Result<OutLine, AllocError>
+    fn line_of(&self, machine: &mut Machine, doc: &Doc) -> Result<OutLine, AllocError>
         requires ready { IsReady machine.old self.now.journal.changes }
         ensures line { (root : Root) → IsOf doc.now root → IfOk result (λ line. Answered (Showing root) self.now.journal.changes self.now.journal.changes line) }
         ensures ready { OnOk result (StaysReady machine.old machine.new) }
@@ -292,15 +295,16 @@ impl Serving {
         })
     }
 
-    /// The program of the live filters.
-    fn program(&self) -> Result<Program, AllocError>
-        ensures compiled { IfOk result (λ program. IsCompiled program self.now.journal.changes) }
+    /// The live filters, compiled.
+    fn compiled(&self) -> Result<Arc<Compiled>, AllocError>
+        ensures compiled { IfOk result (λ compiled. IsCompiled (arc_value compiled) self.now.journal.changes) }
     {
         // The history is legal, so the ids rise and the filters are small enough together.
         let _version = self.journal.version();
         live_filters_are_in_order();
         let live = self.journal.snapshot(self.alloc)?;
-        Program::build(self.alloc, live.as_slice())
+        let program = Program::build(self.alloc, live.as_slice())?;
+        Compiled::of(self.alloc, program)
     }
 
     /// Says the line for the item that was taken last, if there is memory for one, and takes the
