@@ -1,6 +1,7 @@
 //! Runs of the program over memory and over failing sources and sinks.
 
 mod feeds;
+mod waiting;
 
 use crate::plain::plain;
 use px_feed::Status;
