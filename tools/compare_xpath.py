@@ -28,6 +28,17 @@ NUMBERS = ["0", "1", "2", "12", "0.5", ".5", "5.", "-7", "- 1", "3.50", "007", "
 RELATIONS = ["=", "!=", "<", "<=", ">", ">="]
 
 
+class Words:
+    """What the tests and comparisons of a random filter are drawn from; what stands there twice comes twice as often.
+    Without numbers nothing is compared with one."""
+
+    def __init__(self, elements, attributes, texts, numbers):
+        self.elements, self.attributes, self.texts, self.numbers = elements, attributes, texts, numbers
+
+
+WORDS = Words(NAMES[:3] * 8 + NAMES + ["*"] * 12, ATTRIBUTES + ["*"], TEXTS + [""], NUMBERS)
+
+
 class Element:
     def __init__(self, name):
         self.name, self.attributes, self.children = name, [], []
@@ -75,8 +86,8 @@ def to_pyx(element, lines):
     lines.append(")" + element.name)
 
 
-def literal(rng):
-    text = rng.choice(TEXTS + [""])
+def literal(rng, words):
+    text = rng.choice(words.texts)
     return '"%s"' % text if '"' not in text else "'%s'" % text
 
 
@@ -84,19 +95,19 @@ def blank(rng):
     return rng.choice(["", "", "", " ", "\n"])
 
 
-def random_path(rng, depth, first):
+def random_path(rng, depth, first, words=WORDS):
     steps, count = [], rng.choice([1, 1, 2, 2, 3])
     for i in range(count):
         last = i == count - 1
         kind = rng.random()
         if last and kind < 0.2:
-            steps.append("@" + rng.choice(ATTRIBUTES + ["*"]))
+            steps.append("@" + rng.choice(words.attributes))
         elif last and kind < 0.35:
             steps.append("text()")
         else:
-            test = rng.choice(NAMES[:3] * 8 + NAMES + ["*"] * 12)
+            test = rng.choice(words.elements)
             predicates = "".join(
-                "[" + blank(rng) + random_condition(rng, depth - 1) + blank(rng) + "]"
+                "[" + blank(rng) + random_condition(rng, depth - 1, words) + blank(rng) + "]"
                 for _ in range(rng.choice([0, 0, 0, 1, 1, 2]) if depth > 0 else 0))
             steps.append(test + predicates)
     text = steps[0]
@@ -105,22 +116,22 @@ def random_path(rng, depth, first):
     return first + text
 
 
-def random_condition(rng, depth):
+def random_condition(rng, depth, words=WORDS):
     kind = rng.random()
     if depth > 0 and kind < 0.15:
-        return " and ".join(random_condition(rng, depth - 1) for _ in range(rng.choice([2, 3])))
+        return " and ".join(random_condition(rng, depth - 1, words) for _ in range(rng.choice([2, 3])))
     if depth > 0 and kind < 0.3:
-        return " or ".join(random_condition(rng, depth - 1) for _ in range(rng.choice([2, 3])))
+        return " or ".join(random_condition(rng, depth - 1, words) for _ in range(rng.choice([2, 3])))
     if depth > 0 and kind < 0.4:
-        return "not(" + random_condition(rng, depth - 1) + ")"
+        return "not(" + random_condition(rng, depth - 1, words) + ")"
     if depth > 0 and kind < 0.5:
-        return "(" + random_condition(rng, depth - 1) + ")"
-    path = random_path(rng, depth, rng.choice(["", "", "./", ".//"]))
+        return "(" + random_condition(rng, depth - 1, words) + ")"
+    path = random_path(rng, depth, rng.choice(["", "", "./", ".//"]), words)
     if rng.random() < 0.4:
         return path
-    if rng.random() < 0.4:
-        return path + blank(rng) + rng.choice(["=", "!="]) + blank(rng) + literal(rng)
-    return path + blank(rng) + rng.choice(RELATIONS) + blank(rng) + rng.choice(NUMBERS)
+    if rng.random() < 0.4 or not words.numbers:
+        return path + blank(rng) + rng.choice(["=", "!="]) + blank(rng) + literal(rng, words)
+    return path + blank(rng) + rng.choice(RELATIONS) + blank(rng) + rng.choice(words.numbers)
 
 
 def xpush_says(binary, filter_text, pyx):
