@@ -198,8 +198,8 @@ class Xpush:
         """Makes the change of a feed's line '+FILTER', '~ID' or '^ID FILTER', as add, drop and replace do."""
         if not line.startswith((b"+", b"~", b"^")) or b"\n" in line:
             raise ValueError("not the line of a change")
-        text = line[1:].partition(b" ")[2] if line.startswith(b"^") else line[1:]
-        if len(text) > LONGEST_FILTER:
+        filter = {b"+": line[1:], b"^": line.partition(b" ")[2]}.get(line[:1], b"")
+        if len(filter) > LONGEST_FILTER:
             raise FilterError("too-long")
         return self._ask(line)
 
