@@ -177,14 +177,14 @@ def compare(counts, options, rng, name, text, filters):
 
 def main():
     parser = argparse.ArgumentParser(description=__doc__, formatter_class=argparse.RawDescriptionHelpFormatter)
-    parser.add_argument("--files", type=int, default=120)
+    parser.add_argument("--files", type=int, default=80)
     parser.add_argument("--filters", type=int, default=6, help="filters asked of each file")
     parser.add_argument("--seed", type=int, default=20030609)
     parser.add_argument("--binary", default=str(TOP / "crates" / "xpush" / "out" / "xpush"))
     options = parser.parse_args()
     rng, counts = random.Random(options.seed), Counts()
     for name, text in CRAFTED.items():
-        compare(counts, options, rng, name, text, 10 * options.filters)
+        compare(counts, options, rng, name, text, 6 * options.filters)
     paths = files_of_packages(rng, options.files)
     counts.count(len(paths) >= FEWEST, "only %d XML files of packages are there" % len(paths))
     for path in paths:

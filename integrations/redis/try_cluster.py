@@ -14,6 +14,7 @@ import collections
 import os
 import pathlib
 import random
+import select
 import signal
 import socket
 import subprocess
@@ -36,8 +37,9 @@ except ImportError:
     sys.exit("try_cluster: python3-redis is not installed")
 from streams import GROUP, Streams  # noqa: E402
 
-WORKERS, CHUNK, NAME = 3, 10, "trial"
+WORKERS, NAME = 3, "trial"
 FAULTY = {b"(a\n)b\n": ("not-here", "2"), b"(a\n(b\n)b\n": ("truncated", "3"), b"(a\n)a\n+//*\n": ("not-here", "3"), b"": ("truncated", "0")}
+GREETING = "(greeting\nAto all\n)greeting\n"
 
 
 class Trial:
@@ -118,13 +120,20 @@ def random_document(rng):
     return "".join(line + "\n" for line in lines).encode()
 
 
-def killed_in_the_midst(server, documents, worker):
-    """Kills a worker if it holds documents: how many."""
-    os.kill(worker.pid, signal.SIGSTOP)
+def killed_if_it_holds(server, documents, worker):
+    """Kills a worker that is stopped if it holds documents, else lets it go on: how many it held."""
     consumer = "%s-%d" % (socket.gethostname(), worker.pid)
     held = len(server.xpending_range(documents, GROUP, "-", "+", 100, consumername=consumer))
     os.kill(worker.pid, signal.SIGKILL if held else signal.SIGCONT)
     return held
+
+
+def wait_for_each(trial, streams):
+    """Waits until each worker has answered something."""
+    seen, behind = set(), "0-0"
+    while len(seen) < WORKERS and trial.is_time():
+        for behind, fields in streams.replies_behind(behind, 200):
+            seen.add(fields[b"worker"])
 
 
 def publish(trial, streams, workers):
@@ -133,16 +142,21 @@ def publish(trial, streams, workers):
     changes, documents, held = [], {}, 0
     each = trial.options.documents // trial.options.changes
     while len(documents) < trial.options.documents:
+        is_midst = not held and len(documents) > trial.options.documents // 3
+        if is_midst:
+            wait_for_each(trial, streams)
+            # a worker that waits for documents and is stopped is given some nevertheless
+            os.kill(workers[-1].pid, signal.SIGSTOP)
         sent = [random_document(rng) for _ in range(each)]
-        with server.pipeline(transaction=False) as pipe:
+        with server.pipeline(transaction=True) as pipe:
             for document in sent:
                 pipe.xadd(streams.documents, {"document": document})
             entries = pipe.execute()
         documents.update((entry.decode(), (document, len(changes))) for entry, document in zip(entries, sent))
         line = random_change(rng, changes)
         changes.append((server.xadd(streams.changes, {"line": line}), line))
-        if not held and len(documents) > trial.options.documents // 3:
-            held = killed_in_the_midst(server, streams.documents, workers[-1])
+        if is_midst:
+            held = killed_if_it_holds(server, streams.documents, workers[-1])
     return changes, documents, held
 
 
@@ -207,14 +221,16 @@ def try_tools(trial, streams):
     number = answer[1:].strip()
     trial.see(trial.run_tool("subscribe.py", "add", "/order[") == ("! filter not-a-filter 7\n", 1), "subscribe refuses otherwise")
     follower = trial.start(trial.tool("subscribe.py", "follow", number), stdout=subprocess.PIPE, text=True)
-    time.sleep(1)
-    greeting = "(greeting\nAto all\n)greeting\n"
-    lines, status = trial.run_tool("publish.py", "--wait", "30", text="(other\n)other\n" + greeting + "(a\n)b\n")
+    lines, status = trial.run_tool("publish.py", "--wait", "30", text="(other\n)other\n" + GREETING + "(a\n)b\n")
     other, greeted, faulty = (lines.splitlines() + [""] * 3)[:3]
     trial.see(status == 0 and greeted.split(" ")[-1] == number and number not in other.split(" ")[2:], "publish --wait: %s" % lines)
     trial.see(faulty.endswith("! line 2 not-here"), "publish --wait at a fault: %s" % faulty)
-    follower.send_signal(signal.SIGINT if greeted in iter(follower.stdout.readline, "") else signal.SIGKILL)
-    trial.see(follower.wait() == 0, "subscribe follow did not print the reply")
+    while not select.select([follower.stdout], [], [], 1)[0] and trial.is_time():
+        # it had not begun to follow when the last one was answered
+        streams.server.xadd(streams.documents, {"document": GREETING})
+    follower.send_signal(signal.SIGINT)
+    followed, _ = follower.communicate(timeout=30)
+    trial.see(followed.split("\n")[0].split(" ")[-1] == number and follower.returncode == 0, "subscribe follow: %s" % followed)
     replaced, status = trial.run_tool("subscribe.py", "replace", number, "/farewell")
     trial.see(status == 0 and replaced.startswith("^%s " % number), "subscribe replace: %s" % replaced)
     dropped, status = trial.run_tool("subscribe.py", "drop", number)
@@ -234,7 +250,7 @@ def run(trial):
     replies = wait_for_replies(trial, streams, documents)
     check(trial, streams, changes, documents, replies)
     try_tools(trial, streams)
-    for worker in workers[:-1]:
+    for worker in workers:
         worker.terminate()
     trial.see([worker.wait(timeout=30) for worker in workers] == [0] * (WORKERS - 1) + [-signal.SIGKILL], "the workers ended otherwise")
     trial.see(streams.server.xlen(streams.documents) == 0, "answered documents are still in their stream")
@@ -249,6 +265,8 @@ def main():
     parser.add_argument("--seed", type=int, default=20030609)
     parser.add_argument("--seconds", type=float, default=90, help="the longest that it waits for anything")
     parser.add_argument("--binary", default=str(TOP / "crates" / "xpush" / "out" / "xpush"))
+    # whoever ends this script ends the server and the workers too
+    signal.signal(signal.SIGTERM, lambda *_: sys.exit(1))
     with tempfile.TemporaryDirectory() as folder:
         trial = Trial(parser.parse_args(), folder)
         try:
