@@ -17,6 +17,7 @@ missing() {
     has_module redis || echo python3-redis
     has_module lxml.etree || echo python3-lxml
     command -v dot >/dev/null || echo graphviz
+    command -v make >/dev/null || echo make
 }
 
 lacking=$(missing | paste -sd ' ')

@@ -227,7 +227,8 @@ class Xpush:
         self.close()
 
     def _start(self) -> None:
-        self._process = subprocess.Popen(self._command, stdin=subprocess.PIPE, stdout=subprocess.PIPE)
+        # an interrupt at the terminal is for the caller, who ends the program by close
+        self._process = subprocess.Popen(self._command, stdin=subprocess.PIPE, stdout=subprocess.PIPE, start_new_session=True)
         self._answers: "queue.SimpleQueue[Optional[bytes]]" = queue.SimpleQueue()
         # answers are read as they come, so that the program never waits for its reader while it is written to
         self._reader = threading.Thread(target=_read, args=(self._process.stdout, self._answers), daemon=True)

@@ -1,13 +1,18 @@
 """What the tools in this folder share: the names of the streams, and the words of their commands."""
 import argparse
+import os
 import pathlib
 import sys
 
+DEBIAN_PYTHON = "/usr/bin/python3"
 sys.path.insert(0, str(pathlib.Path(__file__).resolve().parent.parent.parent / "clients" / "python"))
 
 try:
     import redis
 except ImportError:
+    # Debian's package serves Debian's own Python
+    if os.path.exists(DEBIAN_PYTHON) and not os.path.samefile(sys.executable, DEBIAN_PYTHON):
+        os.execv(DEBIAN_PYTHON, [DEBIAN_PYTHON] + sys.argv)
     sys.exit("this needs the package python3-redis")
 
 GROUP = "workers"
