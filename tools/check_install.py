@@ -4,8 +4,7 @@
     tools/check_install.py
 
 The man page is read by man without a warning, and its examples are run as they are written, with the
-installed program; it has to name each command, each kind of refusal and each limit that the README
-names. The completions are asked what they offer; without zsh only those of bash are, which is said.
+installed program; it has to name each command, each kind of refusal and each limit, as the README has. The completions are asked what they offer; without zsh only those of bash are, which is said.
 'make install' has to leave the built program as it is. The last line is 'N passed, M failed'.
 """
 import os
@@ -21,6 +20,11 @@ from check_readme import examples
 TOP = pathlib.Path(__file__).resolve().parent.parent
 PAGE = "docs/xpush.1"
 ESCAPES = {r"\(dq": '"', r"\(aq": "'", r"\-": "-", r"\e": "\\"}
+# what the README and the man page both have to name: commands, kinds of refusal, limits
+NAMED = (
+    "serial match show make not-a-filter too-long too-nested number-long unknown too-large no-versions "
+    "not-here not-utf8 line-long too-deep too-many-attributes too-big feed-long truncated").split()
+LIMITS = [16_777_216, 1_048_576, 512, 256, 4_096, 64, 18, 500_000, 1_048_575, 1_099_511_627_776, 50_000, 100_000, 2_147_483_647]
 # the words that are typed, and what is offered for the last
 OFFERED = {
     "xpush ": {"serial", "match", "show", "make"},
@@ -46,7 +50,8 @@ zmodload zsh/zpty
 zpty asked zsh -f -i
 zpty -w asked "PROMPT=; fpath=(${(q)1} \$fpath); autoload -Uz compinit; compinit -u -d ${(q)3}"
 zpty -w asked "zstyle ':completion:*' insert-tab false; list() { compstate[insert]=; compstate[list]=list force; }"
-zpty -w asked "offer() { compprefuncs=(); comppostfuncs=(list); _main_complete }; zle -C offer complete-word offer; bindkey '^X' offer; setopt no_beep; LISTMAX=0; stty cols 200; echo ready''now"
+zpty -w asked "offer() { compprefuncs=(); comppostfuncs=(list); _main_complete }; zle -C offer complete-word offer"
+zpty -w asked "bindkey '^X' offer; setopt no_beep; LISTMAX=0; stty cols 200; echo ready''now"
 zpty -r -m asked line '*readynow*'
 zpty -w -n asked "$2"$'\x18'
 sleep 1
@@ -92,13 +97,14 @@ def check_page(counts, folder):
         done = subprocess.run(["bash", "-c", command], cwd=TOP, capture_output=True, text=True, env=dict(os.environ, PATH=path))
         counts.see(done.stdout.splitlines() == printed, "%s\n  prints\n%s" % (command, done.stdout))
     counts.see(count, "the man page has no example")
-    # between words, and not what stands for bold or a dash
-    words = " ".join(re.sub(r'^\.[A-Z]+ ?|"', " ", page_text(raw), flags=re.M).split())
+    page = {word.strip(".;") for word in re.sub(r'^\.[A-Z]+ ?|[",!|]', " ", page_text(raw), flags=re.M).split()}
     readme = (TOP / "README.md").read_text()
-    kinds = set(re.findall(r"`(! [a-z]+ [a-z-]+)", readme)) | set(re.findall(r"`([a-z]+(?:-[a-z0-9]+)+)`", readme.split("| `! line LINE KIND`")[1].split("\n")[0]))
-    limits = set(number.replace(",", "") for number in re.findall(r"\d{1,3}(?:,\d{3})+", "\n".join(re.findall(r"^.*(?:Limits:|has at most|At most .* bytes|brackets open|measure 500).*$", readme, re.M))))
-    for one in sorted(kinds | (limits - {"250000", "166666", "100000"})):
-        counts.see(one in words, "the man page does not name '%s'" % one)
+    for one in NAMED:
+        counts.see(one in page, "the man page does not name '%s'" % one)
+        counts.see(one in readme, "the README does not name '%s'" % one)
+    for limit in LIMITS:
+        counts.see(str(limit) in page, "the man page does not name the limit %d" % limit)
+        counts.see("{:,}".format(limit) in readme, "the README does not name the limit %d" % limit)
     if shutil.which("man") and shutil.which("groff"):
         done = subprocess.run(["man", "--warnings", "-E", "UTF-8", "-l", "-Tutf8", "-Z", PAGE], cwd=TOP, capture_output=True, text=True)
         counts.see(done.returncode == 0 and not done.stderr, "man warns: %s" % done.stderr)
@@ -113,7 +119,8 @@ def offered_by_bash(typed, folder):
 
 def offered_by_zsh(typed, folder):
     places = (os.path.join(folder, "share/zsh/site-functions"), typed, os.path.join(folder, "zcompdump"))
-    done = subprocess.run(["zsh", "-f", "-c", ASK_ZSH, "zsh", *places], capture_output=True, text=True, timeout=60, env=dict(os.environ, TERM="dumb"))
+    words = ["zsh", "-f", "-c", ASK_ZSH, "zsh", *places]
+    done = subprocess.run(words, capture_output=True, text=True, timeout=60, env=dict(os.environ, TERM="dumb"))
     return set(re.findall(r"^(serial|match|show|make|--[a-z]+)(?==|\s)", done.stdout.replace("\r", ""), re.M))
 
 
