@@ -44,8 +44,8 @@ A faulty document ends the run of the program. The client then starts it anew an
 changes once more, in their order, so that ids and versions are what they were; what was sent behind
 the faulty document is sent again. So an Xpush can be used on after each exception but EngineError.
 
-This client is tested, and not proved as the program is. It needs Python 3.8 and nothing else. An
-Xpush is for one thread.
+This client is tested, and not proved as the program is. It needs Python alone, and was tried with 3.11.
+An Xpush is for one thread.
 """
 from __future__ import annotations
 
