@@ -6,7 +6,8 @@
 The files are drawn from those that the installed Debian packages brought, and some documents that
 stand here have what is rare there: CDATA, entities, default attributes, encodings. Each is written
 as PYX by tools/xml2pyx, and random filters of its own names and texts are asked of it: what 'xpush
-match' answers has to be libxml2's 'boolean(FILTER)' (python3-lxml) of the same file. A file that
+match' answers has to be libxml2's 'boolean(FILTER)' (python3-lxml) of the same file. All of them in
+one stream, with changes between them, have to give the lines that each gave alone. A file that
 libxml2 refuses has to be refused by xml2pyx too, with nothing written; one in an encoding that expat
 does not read is left out, and counted.
 
@@ -144,6 +145,7 @@ def parsed(text):
 
 class Counts:
     def __init__(self):
+        self.documents = []  # XML and its PYX lines, of what was not refused
         self.passed = self.failed = self.said_yes = self.refused = self.left_out = 0
 
     def count(self, is_right, told):
@@ -152,9 +154,20 @@ class Counts:
             print(told)
 
 
+def pyx_of(text):
+    return subprocess.run([str(TOP / "tools" / "xml2pyx")], input=text, capture_output=True, timeout=60)
+
+
+def compare_stream(counts):
+    """All documents one after another, with changes between them, give the lines that each gave alone."""
+    done = pyx_of(b"".join(b"+/a[b]\n" + text + b"\n" for text, _ in counts.documents))
+    wanted = b"".join(b"+/a[b]\n" + pyx for _, pyx in counts.documents)
+    counts.count(done.stdout == wanted, "the stream of all documents gives other lines: %s" % done.stderr.decode())
+
+
 def compare(counts, options, rng, name, text, filters):
     """Asks some filters of one file, or sees that both refuse it."""
-    done = subprocess.run([str(TOP / "tools" / "xml2pyx")], input=text, capture_output=True, timeout=60)
+    done = pyx_of(text)
     try:
         tree = parsed(text)
     except etree.XMLSyntaxError as error:
@@ -166,6 +179,8 @@ def compare(counts, options, rng, name, text, filters):
         counts.left_out += is_left_out
         counts.count(is_left_out, "%s: %s" % (name, done.stderr.decode()))
         return
+    if not text.startswith((b"\xff\xfe", b"\xfe\xff")):  # UTF-16 is not for streams of other encodings
+        counts.documents.append((text, done.stdout))
     words = words_of(done.stdout, tree)
     for _ in range(filters):
         marked = random_path(rng, 2, rng.choice(["/", "//", "//", "//", "//"]), words)
@@ -189,6 +204,7 @@ def main():
     counts.count(len(paths) >= FEWEST, "only %d XML files of packages are there" % len(paths))
     for path in paths:
         compare(counts, options, rng, path, pathlib.Path(path).read_bytes(), options.filters)
+    compare_stream(counts)
     print("compare_xml: %d files of packages; %d refused by both, %d in encodings that expat does not read; %d filters matched"
           % (len(paths), counts.refused, counts.left_out, counts.said_yes))
     print("%d passed, %d failed" % (counts.passed, counts.failed))
