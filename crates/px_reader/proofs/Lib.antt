@@ -1,6 +1,7 @@
 pub mod Endless
 pub mod MachineLaws
 pub mod Begins
+pub mod Spelt
 pub mod Rows
 pub mod Unique
 pub mod LineCuts

@@ -11,6 +11,7 @@ use Rattle.px_reader.specs.Judged.{BeginsTree}
 use Rattle.px_reader.proofs.MachineLaws.{guard_some, fails_some, from_some, can_end, closers, accepted_spells}
 use Rattle.px_reader.proofs.Runs.{goes, step_same, accepts-append}
 use Rattle.px_reader.proofs.LineCuts.{sizes}
+use Rattle.px_reader.proofs.Spelt.{document_tree}
 
 -- what lines give begins the events of some tree
 pub given_begins : (lines : List Line) (state : State) (given : List Event) → runs Before lines ≡ Some (state, given) → BeginsTree given
@@ -18,7 +19,7 @@ given_begins lines state given e =
     let c = can_end state in
     let whole = accepts-append lines (closers state) Before state given c.0 e c.1 in
     let t = accepted_spells (lines ++ closers state) (given ++ c.0) whole in
-    (t.0, c.0, sym t.2)
+    (t.0, c.0, document_tree (lines ++ closers state) t.0 t.1, sym t.2)
 
 -- whether a text waits for the end of its run
 abbrev pub waiting : State → ℕ

@@ -3,6 +3,7 @@ pub mod Machine
 pub mod Rows
 pub mod Spelling
 pub mod Verdicts
+pub mod Trees
 pub mod Judged
 pub mod States
 pub mod Reading

@@ -29,7 +29,7 @@ pub use event::Event;
 pub use event_list::EventList;
 pub use fault::{DocFault, DocKind, LineFault, ReaderFault};
 pub use happening::Happening;
-pub use laws::{machine_is_right, verdicts_are_one};
+pub use laws::{machine_is_right, verdicts_are_one, what_is_spelt_is_a_tree};
 pub use lines::{Lines, PushFault};
 pub use name_stack::NameStack;
 pub use reader::Reader;
