@@ -11,7 +11,7 @@ use Rattle.px_feed.specs.declared.item.Item.TheVariants.{Document}
 use Rattle.px_reader.specs.Spelling.{Spells}
 use Rattle.px_reader.specs.Verdicts.{IsFine, HasVerdict, Judges, IsTree}
 use Rattle.px_reader.specs.declared.fault.DocKind.TheVariants.{NotHere, NotUtf8, LineLong, TooDeep, TooManyAttributes, TooBig, Truncated}
-use Rattle.px_reader.proofs.Recording.{recorded_fine}
+use Rattle.px_reader.specs.Recorded.{AreFine}
 use Rattle.px_reader.proofs.LineCuts.{concat-lines_of, ended_is, lines_push, lines_whole, open_line, whole_push, take_lines, sizes}
 use Rattle.px_feed.specs.declared.fault.Failure.{Failure}
 use Rattle.px_reader.specs.declared.recorder.Recorder.{Recorder}
@@ -131,8 +131,11 @@ begins_here before line size (fit, does) =
 -- no line of the document so far has a fault
 pub fine_inside : (document : Recorder) (before : List (List ℕ)) (inside : List ℕ) (given : List Item) → Stands document before inside given →
     (k : ℕ) → k < length (lines_of inside) → IsFine (lines_of inside) k
-fine_inside document before inside given s =
-    subst (λ bs. (k : ℕ) → k < length (lines_of bs) → IsFine (lines_of bs) k) s.recorded.bytes_are (recorded_fine document)
+fine_inside document before inside given s = s.recorded.fine
+
+-- no lines have no fault
+pub none_fine : AreFine []
+none_fine k l = omega (arith, l)
 
 -- the first line of the document that goes on
 pub opening : (document : Recorder) (before : List (List ℕ)) (inside line : List ℕ) (rest : List (List ℕ)) (given : List Item) → Stands document before inside given →
@@ -140,15 +143,15 @@ pub opening : (document : Recorder) (before : List (List ℕ)) (inside line : Li
 opening document before inside line rest given s one = opening_push before (lines_of inside) line rest (λ e. one (no_line inside e)) s.begins
 
 -- no document has begun
-pub stands_outside : (document : Recorder) (lines : List (List ℕ)) (given : List Item) → Standing document lines given → length document.bytes.items ≡ 0 → Stands document lines [] given
+pub stands_outside : (document : Recorder) (lines : List (List ℕ)) (given : List Item) → Standing document lines given → length document ≡ 0 → Stands document lines [] given
 stands_outside document lines given s none =
     let empty : s.inside ≡ [] = nil_from_length s.inside (ap length (sym s.stands.recorded.bytes_are) ∙ none) in
     let same : s.before ≡ lines = sym (s.lines_are ∙ ap (λ bs. s.before ++ lines_of bs) empty ∙ append-nil s.before) in
     subst (λ ls. Stands document ls [] given) same (subst (λ bs. Stands document s.before bs given) empty s.stands)
 
 -- a document has begun
-pub has_begun : (document : Recorder) (before : List (List ℕ)) (inside : List ℕ) (given : List Item) → Stands document before inside given → 0 < length document.bytes.items → inside ≡ [] → ⊥
-has_begun document before inside given s some e = let n : length document.bytes.items ≡ 0 = ap length (s.recorded.bytes_are ∙ e) in omega arith
+pub has_begun : (document : Recorder) (before : List (List ℕ)) (inside : List ℕ) (given : List Item) → Stands document before inside given → 0 < length document → inside ≡ [] → ⊥
+has_begun document before inside given s some e = let n : length document ≡ 0 = ap length (s.recorded.bytes_are ∙ e) in omega arith
 
 -- lines up to the last, and one more
 pub open_more : (lines : List (List ℕ)) (line : List ℕ) (j : ℕ) → ((j : ℕ) (root : Root) → j ≤ length lines → Spells (take j lines) root → ⊥) →

@@ -296,7 +296,7 @@ first_inside_big before lines line rest fits big = (breaks_shows lines line rest
 
 -- a line that is too long, where it leaves room in its document
 pub line_long_fails : (document : Recorder) (lines : List (List ℕ)) (line : List ℕ) (given : List Item) (n count : ℕ) → Standing document lines given → length line ≡ count → 1_048_578 < count →
-    bytes_in lines + count ≤ most_bytes → (0 < length document.bytes.items → length document.bytes.items + count ≤ 16_777_216) → n ≡ length lines + 1 →
+    bytes_in lines + count ≤ most_bytes → (0 < length document → length document + count ≤ 16_777_216) → n ≡ length lines + 1 →
     (rest : List (List ℕ)) → Gives [] ((lines ++ line ∷ []) ++ rest) given (AtFault n (Doc LineLong))
 line_long_fails document lines line given n count s same long fits room e rest = on (placed document lines given s)
   where
@@ -307,9 +307,9 @@ line_long_fails document lines line given n count s same long fits room e rest =
     on (outside_them t) = fails_outside lines line given (Doc LineLong) n t.leads (first_long lines line size (too_many line count same long)) e rest
     on (inside_one before inside lines_are t some) =
         let fit = subst (λ ls. bytes_in ls + length line ≤ most_bytes) lines_are size in
-        let held : length document.bytes.items ≡ length inside = ap length t.recorded.bytes_are in
+        let held : length document ≡ length inside = ap length t.recorded.bytes_are in
         let many = some_length inside some in
-        let small = within (sum_by length (lines_of inside)) (length inside) (length document.bytes.items) (length line) count (sizes inside) held same (room (subst (λ k. 0 < k) (sym held) many)) in
+        let small = within (sum_by length (lines_of inside)) (length inside) (length document) (length line) count (sizes inside) held same (room (subst (λ k. 0 < k) (sym held) many)) in
         subst (λ ls. Gives [] ((ls ++ line ∷ []) ++ rest) given (AtFault n (Doc LineLong))) (sym lines_are)
         (inside_fails document before inside line rest given (Doc LineLong) n t (λ none. absurd (some none)) (size_before before (lines_of inside) line fit)
         (first_inside_long before (lines_of inside) line rest (size_more before (lines_of inside) line fit) small (too_many line count same long)) (e ∙ ap (λ ls. length ls + 1) lines_are))
@@ -323,7 +323,7 @@ line_long_fails document lines line given n count s same long fits room e rest =
 
 -- a line with which its document is too big
 pub too_big_fails : (document : Recorder) (lines : List (List ℕ)) (line : List ℕ) (given : List Item) (n count : ℕ) → Standing document lines given → length line ≡ count →
-    bytes_in lines + count ≤ most_bytes → (length document.bytes.items ≡ 0 → ⊥) → 16_777_216 < length document.bytes.items + count → n ≡ length lines + 1 →
+    bytes_in lines + count ≤ most_bytes → (length document ≡ 0 → ⊥) → 16_777_216 < length document + count → n ≡ length lines + 1 →
     (rest : List (List ℕ)) → Gives [] ((lines ++ line ∷ []) ++ rest) given (AtFault n (Doc TooBig))
 too_big_fails document lines line given n count s same fits begun big e rest = on (placed document lines given s)
   where
@@ -334,7 +334,7 @@ too_big_fails document lines line given n count s same fits begun big e rest = o
     on (outside_them t) = absurd (begun (ap length t.recorded.bytes_are))
     on (inside_one before inside lines_are t some) =
         let fit = subst (λ ls. bytes_in ls + length line ≤ most_bytes) lines_are size in
-        let more = above (sum_by length (lines_of inside)) (length inside) (length document.bytes.items) (length line) count (sizes inside) (ap length t.recorded.bytes_are) same big in
+        let more = above (sum_by length (lines_of inside)) (length inside) (length document) (length line) count (sizes inside) (ap length t.recorded.bytes_are) same big in
         subst (λ ls. Gives [] ((ls ++ line ∷ []) ++ rest) given (AtFault n (Doc TooBig))) (sym lines_are)
         (inside_fails document before inside line rest given (Doc TooBig) n t (λ none. absurd (some none)) (size_before before (lines_of inside) line fit)
         (first_inside_big before (lines_of inside) line rest (size_more before (lines_of inside) line fit) more) (e ∙ ap (λ ls. length ls + 1) lines_are))

@@ -78,15 +78,6 @@ pub begins-output : (items : Items) (left : Option (List ℕ)) (bytes rest : Lis
 begins-output items left bytes rest given lines taken are e =
     let (more, stop, has) = begins-items items left bytes rest given taken e in output_behind (bytes ++ rest) given more lines stop has are
 
--- the same with the line of the item taken last apart
-pub begins-output-lines : (items : Items) (left : Option (List ℕ)) (bytes rest : List ℕ) (given : List Item) (brought : Item) (lines : List OutLine) (line : OutLine) →
-    HasTaken items left bytes (given ++ brought ∷ []) → AreLines (given ++ brought ∷ []) (lines ++ line ∷ []) → left ≡ Some rest →
-    (text more : List ℕ) × (status : Status) × Out (bytes ++ rest) text status × (text ≡ text_of lines ++ (line_text line ++ more))
-begins-output-lines items left bytes rest given brought lines line taken are e =
-    let (text, more, status, out, begins) = begins-output items left bytes rest (given ++ brought ∷ []) (lines ++ line ∷ []) taken are e in
-    let one : text_of (lines ++ line ∷ []) ≡ text_of lines ++ line_text line = flat_map-append line_text lines (line ∷ []) ∙ ap (λ bs. text_of lines ++ bs) (append-nil (line_text line)) in
-    (text, more, status, out, begins ∙ ap (λ bs. bs ++ more) one ∙ append_assoc (text_of lines) (line_text line) more)
-
 -- the output where a feed has ended
 pub out-at-end : (left : Option (List ℕ)) (bytes rest : List ℕ) (given : List Item) (lines : List OutLine) → Ends End left bytes given → AreLines given lines → left ≡ Some rest →
     Out (bytes ++ rest) (text_of (lines ++ lines_at AtEnd)) (status_of (lines ++ lines_at AtEnd))

@@ -20,9 +20,6 @@ again before lines rest given more items stop g =
     subst (λ its. Gives [] ((before ++ lines) ++ rest) its stop) (sym (append_assoc given more items))
     (subst (λ ls. Gives [] ls (given ++ (more ++ items)) stop) (sym (append_assoc before lines rest)) g)
 
-pub leads_start : Leads [] []
-leads_start rest items stop g = g
-
 pub leads_skip : (before : List (List ℕ)) (line : List ℕ) (given : List Item) → Leads before given → HasNone (ShowsOutside before line) →
     outside (without_end line) ≡ Skips → Leads (before ++ line ∷ []) given
 leads_skip before line given leads fine e rest items stop g =

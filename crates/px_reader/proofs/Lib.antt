@@ -20,6 +20,7 @@ pub mod Feeds
 pub mod Taken
 pub mod Readings
 pub mod Feeding
+pub mod Stopping
 pub mod Closing
 pub mod Marking
 pub mod Telling

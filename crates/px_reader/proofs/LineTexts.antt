@@ -1,6 +1,6 @@
 -- Text is text line by line.
 use Rattle.std.proofs.Common.{◌≡◌, ℕ, ◌+◌, ◌<◌, true, List, [], ◌∷◌, ◌++◌, length, take, drop, get_or, refl, sym, subst, inl, inr, ◌⊎◌, length-append, arith, IsUtf8}
-use Rattle.std.proofs.lemmas.Str.{IsUtf8-append, IsUtf8-take, IsUtf8-drop, IsUtf8-nil, IsCharBoundary-after_ascii}
+use Rattle.std.proofs.lemmas.Str.{IsUtf8-take, IsUtf8-drop, IsUtf8-nil, IsCharBoundary-after_ascii}
 use Rattle.std.proofs.lemmas.List.{take_at, drop_at}
 use Rattle.px_reader.specs.Lines.{is_whole}
 use Rattle.px_reader.proofs.LineCuts.{whole_ends}
@@ -29,11 +29,3 @@ text_whole front rest w u = on (whole_ends front w)
     on (inl e) = let v : IsUtf8 rest = subst (λ f. IsUtf8 (f ++ rest)) e u in (subst IsUtf8 (sym e) IsUtf8-nil, v)
     on (inr (start, e)) =
         let p = text_parts start rest (subst (λ f. IsUtf8 (f ++ rest)) e u) in (subst IsUtf8 (sym e) p.0, p.1)
-
--- So the whole is text exactly where both are.
-pub text_joined : (front rest : List ℕ) → is_whole front ≡ true → (IsUtf8 (front ++ rest) → IsUtf8 front × IsUtf8 rest) × (IsUtf8 front × IsUtf8 rest → IsUtf8 (front ++ rest))
-text_joined front rest w = (text_whole front rest w, λ p. IsUtf8-append front rest p.0 p.1)
-
--- A line of whole lines that are text is text, and so is what is behind it.
-pub text_line : (line rest : List ℕ) → IsUtf8 ((line ++ 10 ∷ []) ++ rest) → IsUtf8 (line ++ 10 ∷ [])
-text_line line rest u = (text_parts line rest u).0

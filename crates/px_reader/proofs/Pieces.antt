@@ -3,17 +3,15 @@ use Rattle.std.proofs.Common.{◌≡◌, ℕ, ◌+◌, ◌-◌, ◌<◌, ◌≤�
 use Rattle.std.specs.List.{sum_by}
 use Rattle.std.proofs.lemmas.Bool.{cases_lt}
 use Rattle.std.proofs.lemmas.List.{take_all}
-use Rattle.px_text.specs.Nodes.{Root}
 use Rattle.px_reader.specs.declared.event.Event.{Event}
 use Rattle.px_reader.specs.declared.fault.DocKind.{DocKind}
 use Rattle.px_reader.specs.declared.fault.DocKind.TheVariants.{TooDeep, TooManyAttributes, TooBig}
 use Rattle.px_reader.specs.Lines.{Line, lines_of}
-use Rattle.px_reader.specs.Spelling.{Spells, kinds, events_of}
+use Rattle.px_reader.specs.Spelling.{kinds}
 use Rattle.px_reader.specs.Machine.{State, Before, accepts, runs, open_in, attributes_in}
 use Rattle.px_reader.specs.Judged.{Judged}
 use Rattle.px_reader.specs.Verdicts.{IsFaulty, Judges, Shows, depth, attributes_behind}
 use Rattle.px_reader.proofs.MachineLaws as machine
-use Rattle.px_reader.proofs.Begins.{kinds-append}
 use Rattle.px_reader.proofs.LineCuts.{begun_line}
 use Rattle.px_reader.specs.Lines.{has_no_feed}
 use Rattle.px_reader.proofs.Runs.{step_same}
@@ -89,12 +87,3 @@ through (line ∷ lines) more state evs e =
       accepted = t.accepted;
       evs_are = sym g.evs_are ∙ ap (λ es. g.found.1 ++ es) t.evs_are ∙ sym (append_assoc g.found.1 t.given t.rest);
     }
-
--- the events given so far are the first of the tree that the lines will spell
-pub given_of_tree : (lines more : List (List ℕ)) (state : State) (given : List Event) (root : Root) → runs Before (kinds lines) ≡ Some (state, given) →
-    Spells (lines ++ more) root → (rest : List Event) × (events_of root ≡ given ++ rest)
-given_of_tree lines more state given root led d =
-    let a = machine.spelt_accepted (kinds (lines ++ more)) root d in
-    let t = through (kinds lines) (kinds more) Before (events_of root) (rw kinds-append at a) in
-    let same = step_same (t.middle, t.given) (state, given) (sym t.led ∙ led) in
-    (t.rest, t.evs_are ∙ ap (λ es. es ++ t.rest) same.1)

@@ -15,14 +15,13 @@ use Rattle.px_reader.specs.declared.scanner.Told.{Told}
 use Rattle.px_reader.specs.Judged.{Judged}
 use Rattle.px_reader.specs.Lines.{lines_of, is_whole, is_ended}
 use Rattle.px_reader.specs.Machine.{State, Before, Attributes, Inside, After}
-use Rattle.px_reader.specs.Recorded.{recorded}
-use Rattle.px_reader.specs.declared.recorder.Recorder.{Recorder}
+use Rattle.px_reader.specs.Recorded.{AreFine}
 use Rattle.px_reader.specs.Records.{Records, Refuses, RefusesEnd}
 use Rattle.px_reader.specs.Scanned.{IsWithin, bytes_at, line_to}
 use Rattle.px_reader.specs.Scanning.{standing, state_in, brought_in, JudgesLine}
 use Rattle.px_reader.specs.Spelling.{Spells, events_of}
 use Rattle.px_reader.specs.States.{is_after, Bars, Judging}
-use Rattle.px_reader.specs.Verdicts.{IsFine, HasVerdict, Judges, IsTree, IsFaulty, AreTreeEvents}
+use Rattle.px_reader.specs.Verdicts.{HasVerdict, Judges, IsTree, IsFaulty, AreTreeEvents}
 use Rattle.px_reader.proofs.Judged.{judged_big, judged_truncated, judged_tree}
 use Rattle.px_reader.proofs.LineCuts.{sizes, ended_is, lines_push, whole_push}
 use Rattle.px_reader.proofs.Marking.{part_kept}
@@ -35,9 +34,6 @@ use Rattle.px_reader.proofs.Verdicts.{judges_one}
 pub place_kept : (bytes more apart : List ℕ) (place : Place) → IsWithin bytes place → bytes_at (bytes ++ more) apart place ≡ bytes_at bytes apart place
 place_kept bytes more apart Apart within = refl
 place_kept bytes more apart (Here start end) within = part_kept bytes more start end within.0 within.1
-
-pub within_kept : (bytes more : List ℕ) (place : Place) → IsWithin bytes place → IsWithin (bytes ++ more) place
-within_kept bytes more place within = let n = length-append bytes more in let l = within.1 in (within.0, omega arith)
 
 pub state_kept : (bytes more : List ℕ) (scanner : Scanner) → IsWithin bytes scanner.run → state_in (bytes ++ more) scanner ≡ state_in bytes scanner
 state_kept bytes more scanner within =
@@ -179,6 +175,6 @@ barred_line old new bytes line piece at events fault r fits p start judged =
     refuses_barred old bytes line events fault r fits
     (subst (λ bs. Bars (state_in bs old) line fault) p (subst (λ x. Bars (state_in piece old) x fault) l judged))
 
--- no line of a recorder has a fault
-pub recorded_fine : (recorder : Recorder) (k : ℕ) → k < length (lines_of (recorded recorder)) → IsFine (lines_of (recorded recorder)) k
-recorded_fine recorder = recorder.records.judged.fine
+-- no line that was recorded has a fault
+pub recorded_fine : (scanner : Scanner) (bytes : List ℕ) (events : List Event) → Records scanner bytes events → AreFine bytes
+recorded_fine scanner bytes events r = r.judged.fine

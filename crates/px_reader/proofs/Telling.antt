@@ -3,7 +3,7 @@ use Rattle.std.proofs.Common.{◌≡◌, ℕ, ◌≤◌, List, [], ◌++◌, len
 use Rattle.std.proofs.lemmas.List.{nil_from_length}
 use Rattle.px_text.specs.Nodes.{Root}
 use Rattle.px_reader.specs.declared.event.Event.{Event}
-use Rattle.px_reader.specs.declared.reader.Reader.{Reader}
+use Rattle.px_reader.specs.Progress.{Progress}
 use Rattle.px_reader.specs.Lines.{lines_of}
 use Rattle.px_reader.specs.Reading.{HasRead, ReadsPart, GivesOn, EndsTree}
 use Rattle.px_reader.specs.Spelling.{events_of}
@@ -14,16 +14,16 @@ use Rattle.px_reader.proofs.Feeding.{HasBegun}
 use Rattle.px_reader.proofs.Verdicts.{judges_one}
 
 -- The reader has read the bytes up to the rest, and these are the events that it gave.
-pub record HasTold (reader : Reader) (bytes rest : List ℕ) (told : List Event) : Type 0 where
+pub record HasTold (reader : Progress) (bytes rest : List ℕ) (told : List Event) : Type 0 where
   pub done : List ℕ
   pub bytes_are : bytes ≡ done ++ rest
   pub read : HasRead reader done told
 
-pub told_begun : (reader : Reader) (bytes rest : List ℕ) (told : List Event) → HasTold reader bytes rest told → HasBegun reader bytes rest
+pub told_begun : (reader : Progress) (bytes rest : List ℕ) (told : List Event) → HasTold reader bytes rest told → HasBegun reader bytes rest
 told_begun reader bytes rest told h = record { done = h.done; given = told; bytes_are = h.bytes_are; read = h.read }
 
 -- the next part is read, and its events come behind the others
-pub told_more : (old reader : Reader) (bytes rest piece left : List ℕ) (told before behind : List Event) → HasTold old bytes rest told → rest ≡ piece ++ left →
+pub told_more : (old reader : Progress) (bytes rest piece left : List ℕ) (told before behind : List Event) → HasTold old bytes rest told → rest ≡ piece ++ left →
     ReadsPart old reader piece before behind → before ≡ [] → HasTold reader bytes left (told ++ behind)
 told_more old reader bytes rest piece left told before behind h e reads none =
     let (more, f, k) = reads h.done told h.read in
@@ -35,7 +35,7 @@ told_more old reader bytes rest piece left told before behind h e reads none =
     }
 
 -- nothing is left
-pub told_all : (reader : Reader) (bytes rest : List ℕ) (told : List Event) → HasTold reader bytes rest told → length rest ≡ 0 → HasRead reader bytes told
+pub told_all : (reader : Progress) (bytes rest : List ℕ) (told : List Event) → HasTold reader bytes rest told → length rest ≡ 0 → HasRead reader bytes told
 told_all reader bytes rest told h none =
     let same : bytes ≡ h.done = h.bytes_are ∙ ap (λ bs. h.done ++ bs) (nil_from_length rest none) ∙ append-nil h.done in
     subst (λ bs. HasRead reader bs told) (sym same) h.read

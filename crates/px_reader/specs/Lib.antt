@@ -6,7 +6,10 @@ pub mod Verdicts
 pub mod Trees
 pub mod Judged
 pub mod States
+pub mod Progress
+pub mod Progressing
 pub mod Reading
+pub mod Bringing
 pub mod Documents
 pub mod Happenings
 pub mod Marks

@@ -6,12 +6,11 @@ use Rattle.px_reader.specs.declared.fault.ReaderFault.{ReaderFault}
 use Rattle.px_reader.specs.declared.fault.ReaderFault.TheVariants.{Doc, Memory}
 use Rattle.px_reader.specs.declared.fault.LineFault.{LineFault}
 use Rattle.px_reader.specs.declared.fault.LineFault.TheVariants.{Kind, LineMemory}
-use Rattle.px_reader.specs.declared.reader.Reader.{Reader}
 use Rattle.px_reader.specs.Judged.{Judged, BeginsTree}
 use Rattle.px_reader.specs.Lines.{lines_of, is_whole, has_no_feed}
 use Rattle.px_reader.specs.Machine.{State}
+use Rattle.px_reader.specs.Progress.{Progress}
 use Rattle.px_reader.specs.Spelling.{Spells, events_of}
-use Rattle.px_reader.specs.States.{state_of}
 use Rattle.px_reader.specs.Verdicts.{HasVerdict, IsFaulty, IsTree}
 
 -- Behind the bytes, which gave these events, stand the state and the counts of bytes and of ended lines. Of the line
@@ -29,12 +28,12 @@ pub record Reading (state : State) (kept : List ℕ) (size lines : ℕ) (bytes :
   pub judged : Judged (lines_of ended) state given
 
 -- Since it was made or last ended a document, the reader was fed the bytes and gave the events, and no fault came.
-pub record HasRead (reader : Reader) (bytes : List ℕ) (given : List Event) : Type 0 where
-  pub reading : Reading (state_of reader.machine) reader.kept.items reader.extent.size reader.extent.lines bytes given
+pub record HasRead (reader : Progress) (bytes : List ℕ) (given : List Event) : Type 0 where
+  pub reading : Reading reader.state reader.kept reader.size reader.lines bytes given
   pub no_fault : reader.fault ≡ None
 
 -- the reader has answered the fault, and answers it to every call
-abbrev pub HasFailed : Reader → ReaderFault → Type 0
+abbrev pub HasFailed : Progress → ReaderFault → Type 0
 HasFailed reader fault = reader.fault ≡ Some fault
 
 -- however the bytes go on, the fault is the verdict
@@ -48,7 +47,7 @@ IsLastFault bytes (Doc fault) = HasVerdict bytes (IsFaulty fault.line fault.kind
 IsLastFault bytes Memory = Unit {0}
 
 -- More events come behind the earlier ones, and the reader has now read these bytes.
-abbrev pub ReadsOn : Reader → List ℕ → List Event → List Event → List Event → Type 0
+abbrev pub ReadsOn : Progress → List ℕ → List Event → List Event → List Event → Type 0
 ReadsOn reader bytes given before behind =
     (more : List Event) × (behind ≡ before ++ more) × HasRead reader bytes (given ++ more)
 
@@ -68,28 +67,28 @@ EndsTree bytes given before behind =
     (root : Root) × (more : List Event) × (behind ≡ before ++ more) × (events_of root ≡ given ++ more) × HasVerdict bytes (IsTree root)
 
 -- By the part the reader reads on, whatever it has read.
-abbrev pub ReadsPart : Reader → Reader → List ℕ → List Event → List Event → Type 0
+abbrev pub ReadsPart : Progress → Progress → List ℕ → List Event → List Event → Type 0
 ReadsPart old new part before behind =
     (bytes : List ℕ) (given : List Event) → HasRead old bytes given → ReadsOn new (bytes ++ part) given before behind
 
 -- With what has come behind the earlier events, those of the document begin those of some tree.
-abbrev pub GivesMore : Reader → List Event → List Event → Type 0
+abbrev pub GivesMore : Progress → List Event → List Event → Type 0
 GivesMore old before behind = (bytes : List ℕ) (given : List Event) → HasRead old bytes given → GivesOn given before behind
 
 -- With the part the fault is the verdict, whatever was read before and however the bytes go on.
-abbrev pub FailsBy : Reader → List ℕ → ReaderFault → Type 0
+abbrev pub FailsBy : Progress → List ℕ → ReaderFault → Type 0
 FailsBy old part fault = (bytes : List ℕ) (given : List Event) → HasRead old bytes given → IsFirstFault (bytes ++ part) fault
 
 -- What was read is a whole document, and all events of its tree are given.
-abbrev pub EndsWhole : Reader → List Event → List Event → Type 0
+abbrev pub EndsWhole : Progress → List Event → List Event → Type 0
 EndsWhole old before behind = (bytes : List ℕ) (given : List Event) → HasRead old bytes given → EndsTree bytes given before behind
 
 -- The fault is the verdict on what was read.
-abbrev pub FailsAtEnd : Reader → ReaderFault → Type 0
+abbrev pub FailsAtEnd : Progress → ReaderFault → Type 0
 FailsAtEnd old fault = (bytes : List ℕ) (given : List Event) → HasRead old bytes given → IsLastFault bytes fault
 
 -- All lines of what was read are judged, and there are so many.
-abbrev pub ReadsLines : Reader → State → ℕ → List Event → List Event → Type 0
+abbrev pub ReadsLines : Progress → State → ℕ → List Event → List Event → Type 0
 ReadsLines old state lines before behind =
     (bytes : List ℕ) (given : List Event) → HasRead old bytes given → ReadsAll state lines bytes given before behind
 
@@ -99,9 +98,9 @@ fault_at line (Kind kind) = Doc (record { line = line; kind = kind })
 fault_at line LineMemory = Memory
 
 -- Where what was read ends with a line, it is a whole document.
-abbrev pub IsClosed : Reader → Type 0
+abbrev pub IsClosed : Progress → Type 0
 IsClosed reader = (bytes : List ℕ) (given : List Event) → HasRead reader bytes given → is_whole bytes ≡ true → (root : Root) × HasVerdict bytes (IsTree root)
 
 -- Where what was read ends with a line, it spells no tree.
-abbrev pub IsStillOpen : Reader → Type 0
+abbrev pub IsStillOpen : Progress → Type 0
 IsStillOpen reader = (bytes : List ℕ) (given : List Event) → HasRead reader bytes given → is_whole bytes ≡ true → (root : Root) → Spells (lines_of bytes) root → ⊥

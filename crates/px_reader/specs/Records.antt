@@ -1,5 +1,5 @@
 -- A document whose lines are judged where they lie, and whose events are kept.
-use Rattle.std.specs.Prelude.{◌≡◌, ℕ, ◌+◌, ◌≤◌, List, ◌∷◌, ◌++◌, length}
+use Rattle.std.specs.Prelude.{ℕ, ◌+◌, ◌≤◌, List, ◌∷◌, ◌++◌, length}
 use Rattle.px_reader.specs.declared.event.Event.{Event}
 use Rattle.px_reader.specs.declared.fault.LineFault.{LineFault}
 use Rattle.px_reader.specs.declared.fault.LineFault.TheVariants.{Kind, LineMemory}

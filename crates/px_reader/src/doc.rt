@@ -9,19 +9,28 @@ use crate::fault::ReaderFault;
 use crate::reader::Reader;
 use px_text::Bytes;
 use std::alloc::Global;
+use std::marker::Model;
 
 /// The most bytes that are fed at once, so that few events are held.
 const MAX_PIECE: usize = 65_536;
 
 /// Bytes that spell a document within the limits, and the events of its tree, so that the bytes
-/// need not be read again.
+/// need not be read again. Contracts see the bytes.
 #[derive(Drop)]
 pub struct Doc {
     bytes: Bytes,
     events: EventList,
-    ghost spelt: { SpellsTree bytes },
-    ghost told: { AreTreeEvents bytes events },
-    ghost few: { length events ≤ 16_777_216 },
+}
+
+impl Model for Doc {
+    ghost use Rattle.std.specs.Prelude.{List, ℕ};
+    ghost use Rattle.px_reader.specs.Documents.{IsSpelt};
+
+    ghost Value = { List ℕ };
+
+    ghost view = { λ doc. doc.bytes };
+
+    ghost invariant = { λ doc. IsSpelt doc.bytes doc.events };
 }
 
 impl Doc {

@@ -1,6 +1,6 @@
 //! Events behind one another, in memory that they share.
 
-ghost use Rattle.std.specs.Prelude.{◌≡◌, ◌<◌, ◌≤◌, ◌+◌, ◌++◌, ◌∷◌, [], Some, length, slice_get, IfOk, OnOk, OnErr};
+ghost use Rattle.std.specs.Prelude.{◌≡◌, ◌<◌, ◌≤◌, ◌+◌, ◌++◌, ◌∷◌, [], ℕ, Some, length, take, slice_get, IfOk, OnOk, OnErr};
 ghost use Rattle.px_reader.specs.Happenings.{event_of};
 ghost use Rattle.px_reader.specs.Marks.{made_of, part_of};
 
@@ -90,9 +90,10 @@ impl EventList {
         }
     }
 
-    /// Puts these events behind the others. Where memory is refused the list has some of them.
+    /// Puts these events behind the others. Where memory is refused the first of them stand there.
     pub fn push_all(&mut self, next: &[Event]) -> Result<(), AllocError>
-        ensures { OnOk result (self.new ≡ self.old ++ next.now) }
+        ensures ok { OnOk result (self.new ≡ self.old ++ next.now) }
+        ensures err { OnErr result ((count : ℕ) × (self.new ≡ self.old ++ take count next.now)) }
     {
         for event in next {
             self.push(event.seen())?;

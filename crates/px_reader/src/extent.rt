@@ -17,6 +17,7 @@ pub struct Extent {
 }
 
 impl Extent {
+    ghost use Rattle.px_reader.specs.Bringing.{StandsAt};
     ghost use Rattle.px_reader.specs.Reading.{fault_at};
 
     pub fn start() -> Extent
@@ -71,7 +72,8 @@ impl Extent {
 
     /// The fault of the line behind those that have ended.
     pub fn fault(&self, fault: LineFault) -> ReaderFault
-        ensures { result ≡ fault_at (self.now.lines + 1) fault }
+        ensures same { result ≡ fault_at (self.now.lines + 1) fault }
+        ensures line { StandsAt (self.now.lines + 1) result }
     {
         match fault {
             LineFault::Kind(kind) => ReaderFault::Doc(DocFault {

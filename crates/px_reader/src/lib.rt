@@ -15,6 +15,7 @@ mod event_list;
 mod extent;
 mod fault;
 mod happening;
+mod judge;
 mod laws;
 mod lines;
 mod machine;
@@ -30,11 +31,8 @@ pub use event_list::EventList;
 pub use fault::{DocFault, DocKind, LineFault, ReaderFault};
 pub use happening::Happening;
 pub use laws::{machine_is_right, verdicts_are_one, what_is_spelt_is_a_tree};
-pub use lines::{Lines, PushFault};
-pub use name_stack::NameStack;
 pub use reader::Reader;
 pub use recorder::Recorder;
-pub use scanner::{JudgedLine, Own, Place, QuickLine, Scanner, Seen, Told};
 
 #[cfg(test)]
 mod tests;

@@ -1,6 +1,6 @@
 //! A document that comes line by line, and is kept with its events.
 
-ghost use Rattle.std.specs.Prelude.{◌≡◌, ◌<◌, ◌≤◌, ◌++◌, [], ◌∷◌, true, false, length, IsTrue, IsUtf8, IfErr, OnOk};
+ghost use Rattle.std.specs.Prelude.{◌≡◌, ◌<◌, ◌≤◌, ◌++◌, [], ◌∷◌, true, false, length, IsTrue, IsUtf8, IfErr, OnOk, OnErr};
 ghost use Rattle.px_text.specs.Nodes.{Root};
 ghost use Rattle.px_reader.specs.Documents.{content};
 ghost use Rattle.px_reader.specs.Lines.{is_ended, is_whole, has_no_feed, lines_of};
@@ -15,25 +15,36 @@ use crate::fault::{DocKind, LineFault};
 use crate::scanner::{Own, Scanner, Told};
 use px_text::Bytes;
 use std::alloc::{AllocError, Global};
+use std::marker::Model;
 use std::mem;
 
 /// The most bytes of a document.
 const MAX_DOCUMENT: usize = 16_777_216;
 
 /// The lines of a document so far, each of which is judged, and the events that they bring.
+/// Contracts see the bytes of the lines.
 #[derive(Drop)]
 pub struct Recorder {
     alloc: Global,
     scanner: Scanner,
     bytes: Vec<u8>,
     events: EventList,
-    ghost records: { Records scanner bytes.items events },
-    ghost whole: { is_whole bytes.items ≡ true },
+}
+
+impl Model for Recorder {
+    ghost use Rattle.std.specs.Prelude.{List, ℕ};
+    ghost use Rattle.px_reader.specs.Recorded.{HasRecorded};
+
+    ghost Value = { List ℕ };
+
+    ghost view = { λ recorder. recorder.bytes.items };
+
+    ghost invariant = { λ recorder. HasRecorded recorder.scanner recorder.bytes.items recorder.events };
 }
 
 impl Recorder {
     ghost use Rattle.std.specs.Prelude.{◌==◌, IsFalse, IfOk};
-    ghost use Rattle.px_reader.specs.Recorded.{recorded};
+    ghost use Rattle.px_reader.specs.Recorded.{recorded, AreFine};
     ghost use Rattle.px_reader.specs.Spelling.{Spells};
 
     /// No lines. It takes no memory.
@@ -68,6 +79,8 @@ impl Recorder {
         requires ended { is_ended line.now ≡ true }
         requires text { IsTrue is_text → IsUtf8 line.now }
         ensures ok { OnOk result (recorded self.new ≡ recorded self.old ++ line.now) }
+        ensures fine { OnOk result (AreFine (recorded self.new)) }
+        ensures none { OnErr result (recorded self.new ≡ []) }
         ensures fault { IfErr result (λ fault. Refuses (recorded self.old) line.now fault) }
     {
         match take_line(
@@ -105,12 +118,12 @@ impl Recorder {
     }
 
     /// The document that the lines are with a last one, which no line feed ends; with none where
-    /// that is empty. Then there are no lines again.
+    /// that is empty. Then there are no lines again, at an error too.
     pub fn end_with(&mut self, line: &[u8]) -> Result<Doc, LineFault>
         requires no_feed { has_no_feed line.now ≡ true }
         ensures doc { IfOk result (λ doc. content doc ≡ recorded self.old ++ line.now) }
         ensures tree { OnOk result ((root : Root) × HasVerdict (recorded self.old ++ line.now) (IsTree root)) }
-        ensures none { OnOk result (recorded self.new ≡ []) }
+        ensures none { recorded self.new ≡ [] }
         ensures fault { IfErr result (λ fault. RefusesEnd (recorded self.old) line.now fault) }
     {
         match close(&mut self.scanner, &mut self.bytes, &mut self.events, line) {

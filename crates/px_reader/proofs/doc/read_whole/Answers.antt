@@ -25,7 +25,7 @@ loop-rest-preserved c =
     let behind = c.split_at.result.1.now in
     let more = told_more c.loop-rest.reader c.feed.new.self c.args.bytes.now rest piece behind c.loop-rest.events c.loop-rest.next.items c.feed.new.out.items c.loop-rest.invariant.told
     (two_parts c.min.result rest piece behind c.split_at.ensures.front c.split_at.ensures.back) c.in_ok-feed.ensures.reads c.loop-rest.invariant.none in
-    let all : c.push_all.new.self ≡ c.loop-rest.events ++ c.feed.new.out.items = c.in_ok-push_all.ensures ∙ ap (λ es. c.loop-rest.events ++ es) c.as_slice.ensures.value in
+    let all : c.push_all.new.self ≡ c.loop-rest.events ++ c.feed.new.out.items = c.in_ok-push_all.ensures.ok ∙ ap (λ es. c.loop-rest.events ++ es) c.as_slice.ensures.value in
     record { told = subst (λ es. HasTold c.feed.new.self c.args.bytes.now behind es) (sym all) more; none = c.clear.ensures.items }
 
 pub returns-in_err-end-clause-fault : goal.returns-in_err-end-clause-fault
@@ -46,7 +46,7 @@ returns-clause-events c =
     let none = count_none (length c.loop-rest.rest.now) c.is_empty.result c.is_empty.ensures c.loop-rest-test.false in
     let read = told_all c.loop-rest.reader c.args.bytes.now c.loop-rest.rest.now c.loop-rest.events c.loop-rest.invariant.told none in
     let are = told_tree c.args.bytes.now c.loop-rest.events c.loop-rest.next.items c.end.new.out.items (c.in_ok-end.ensures.tree c.args.bytes.now c.loop-rest.events read) c.loop-rest.invariant.none in
-    let all : c.push_all-2.new.self ≡ c.loop-rest.events ++ c.end.new.out.items = c.in_ok-push_all-2.ensures ∙ ap (λ es. c.loop-rest.events ++ es) c.as_slice-2.ensures.value in
+    let all : c.push_all-2.new.self ≡ c.loop-rest.events ++ c.end.new.out.items = c.in_ok-push_all-2.ensures.ok ∙ ap (λ es. c.loop-rest.events ++ es) c.as_slice-2.ensures.value in
     subst (λ es. AreTreeEvents c.args.bytes.now es) (sym all) are
 
 pub returns-clause-few : goal.returns-clause-few
@@ -54,5 +54,5 @@ returns-clause-few c =
     let none = count_none (length c.loop-rest.rest.now) c.is_empty.result c.is_empty.ensures c.loop-rest-test.false in
     let read = told_all c.loop-rest.reader c.args.bytes.now c.loop-rest.rest.now c.loop-rest.events c.loop-rest.invariant.told none in
     let few = told_few c.loop-rest.events c.loop-rest.next.items c.end.new.out.items (c.end.ensures.gives c.args.bytes.now c.loop-rest.events read) c.loop-rest.invariant.none in
-    let all : c.push_all-2.new.self ≡ c.loop-rest.events ++ c.end.new.out.items = c.in_ok-push_all-2.ensures ∙ ap (λ es. c.loop-rest.events ++ es) c.as_slice-2.ensures.value in
+    let all : c.push_all-2.new.self ≡ c.loop-rest.events ++ c.end.new.out.items = c.in_ok-push_all-2.ensures.ok ∙ ap (λ es. c.loop-rest.events ++ es) c.as_slice-2.ensures.value in
     subst (λ (es : List Event). length es ≤ 16_777_216) (sym all) few

@@ -1,5 +1,5 @@
 -- The line that was taken is the whole line.
-use Rattle.std.proofs.Common.{Ok, Some, length, IsUtf8, sym, ◌∙◌, subst}
+use Rattle.std.proofs.Common.{Ok, Some, length, IsUtf8, sym, subst}
 use Rattle.px_reader.specs.Scanned.{line_to}
 use Rattle.px_reader.specs.Scanning.{QuickTakes, JudgesLine}
 use Rattle.px_reader.proofs.Recording.{one_ended}

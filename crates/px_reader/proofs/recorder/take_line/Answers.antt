@@ -1,5 +1,5 @@
 -- The line is judged behind the others, and its events come behind theirs.
-use Rattle.std.proofs.Common.{◌≡◌, ◌+◌, ◌<◌, ◌≤◌, ◌++◌, length, ◌∙◌, vec_len, arith}
+use Rattle.std.proofs.Common.{◌≡◌, length, ◌∙◌, arith}
 use Rattle.std.proofs.lemmas.Result.{err_from_is_err_and}
 use Rattle.px_reader.proofs.Recording.{refuses_big, taken_line, barred_line}
 use Rattle.px_reader.proofs.recorder.take_line.Goals as goal

@@ -15,14 +15,14 @@ pub returns-then-not-is_empty : goal.returns-then-not-is_empty
 returns-then-not-is_empty c = λ lines given h fits.
     let line = c.args.line.now in
     let s = h.standing in
-    let some = count_some (length c.args.self.now.document.bytes.items) c.is_empty.result c.is_empty.ensures c.if-not-is_empty.true in
+    let some = count_some (length c.args.self.now.document) c.is_empty.result c.is_empty.ensures c.if-not-is_empty.true in
     let answer = c.end_document.ensures s.before s.inside given s.stands c.requires
     (λ none. absurd (has_begun c.args.self.now.document s.before s.inside given s.stands some none)) (subst (λ ls. MayCome c.args.self.now ls line) s.lines_are (h.counts, fits)) in
     subst (λ ls. EndsBy c.end_document.result (ls ++ lines_of line) given) (sym s.lines_are) answer
 
 pub returns-then-is_empty : goal.returns-then-is_empty
 returns-then-is_empty c = λ lines given h fits.
-    let none = count_none (length c.args.self.now.document.bytes.items) c.is_empty.result c.is_empty.ensures c.if-not-is_empty.false in
+    let none = count_none (length c.args.self.now.document) c.is_empty.result c.is_empty.ensures c.if-not-is_empty.false in
     let empty = nil_from_length c.args.line.now (count_none (length c.args.line.now) c.is_empty-2.result c.is_empty-2.ensures c.if-is_empty.true) in
     let outside = stands_outside c.args.self.now.document lines given h.standing none in
     subst (λ ls. Gives [] ls given AtEnd) (sym (ap (λ line. lines ++ lines_of line) empty ∙ append-nil lines)) (ended lines given outside.leads)
@@ -30,7 +30,7 @@ returns-then-is_empty c = λ lines given h fits.
 pub returns-in-Ok : goal.returns-in-Ok
 returns-in-Ok c = λ lines given h fits.
     let line = c.args.line.now in
-    let none = count_none (length c.args.self.now.document.bytes.items) c.is_empty.result c.is_empty.ensures c.if-not-is_empty.false in
+    let none = count_none (length c.args.self.now.document) c.is_empty.result c.is_empty.ensures c.if-not-is_empty.false in
     let some = count_some (length line) c.is_empty-2.result c.is_empty-2.ensures c.if-is_empty.false in
     let outside = stands_outside c.args.self.now.document lines given h.standing none in
     subst (λ ls. EndsBy c.follow_last.result (lines ++ ls) given) (sym (open_line line c.requires some))
@@ -39,7 +39,7 @@ returns-in-Ok c = λ lines given h fits.
 pub returns-in-Err : goal.returns-in-Err
 returns-in-Err c = λ lines given h fits.
     let line = c.args.line.now in
-    let none = count_none (length c.args.self.now.document.bytes.items) c.is_empty.result c.is_empty.ensures c.if-not-is_empty.false in
+    let none = count_none (length c.args.self.now.document) c.is_empty.result c.is_empty.ensures c.if-not-is_empty.false in
     let some = count_some (length line) c.is_empty-2.result c.is_empty-2.ensures c.if-is_empty.false in
     let outside = stands_outside c.args.self.now.document lines given h.standing none in
     let fails = line_fails_outside lines line given c.next_line.result c.in-Err.fault outside.leads fits c.in-Err.ensures (c.next_line.ensures ∙ ap (λ n. n + 1) h.counts) in

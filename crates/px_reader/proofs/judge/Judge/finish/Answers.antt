@@ -1,15 +1,17 @@
 -- The document has ended: with its tree, or too early.
 use Rattle.std.proofs.Common.{◌≡◌, ◌∙◌, true, false, sym}
 use Rattle.px_reader.specs.States.{state_of, is_after}
+use Rattle.px_reader.specs.Progressing.{progress}
 use Rattle.px_reader.proofs.Feeding.{still_gives, all_give, all_tree, all_truncated}
-use Rattle.px_reader.proofs.reader.Reader.finish.Goals as goal
+use Rattle.px_reader.proofs.Stopping.{all_stops}
+use Rattle.px_reader.proofs.judge.Judge.finish.Goals as goal
 
 pub returns-in_err-line-clause-gives : goal.returns-in_err-line-clause-gives
-returns-in_err-line-clause-gives c = λ bytes given h. still_gives c.args.self.now bytes given c.args.out.now.items c.take_last.new.out.items h c.in_err-line.ensures.kept
+returns-in_err-line-clause-gives c = λ bytes given h. still_gives (progress c.args.self.now) bytes given c.args.out.now.items c.take_last.new.out.items h c.in_err-line.ensures.kept
 
 pub returns-then-not-is_behind_root-clause-gives : goal.returns-then-not-is_behind_root-clause-gives
 returns-then-not-is_behind_root-clause-gives c = λ bytes given h.
-    all_give c.args.self.now (state_of c.take_last.new.self.machine) c.in_ok-line.line bytes given c.args.out.now.items c.take_last.new.out.items h (c.in_ok-line.ensures.reads bytes given h)
+    all_give (progress c.args.self.now) (state_of c.take_last.new.self.machine) c.in_ok-line.line bytes given c.args.out.now.items c.take_last.new.out.items h (c.in_ok-line.ensures.reads bytes given h)
 
 pub returns-then-not-is_behind_root-clause-fault : goal.returns-then-not-is_behind_root-clause-fault
 returns-then-not-is_behind_root-clause-fault c = λ bytes given h.
@@ -23,4 +25,8 @@ returns-clause-tree c = λ bytes given h.
 
 pub returns-clause-gives : goal.returns-clause-gives
 returns-clause-gives c = λ bytes given h.
-    all_give c.args.self.now (state_of c.take_last.new.self.machine) c.in_ok-line.line bytes given c.args.out.now.items c.take_last.new.out.items h (c.in_ok-line.ensures.reads bytes given h)
+    all_give (progress c.args.self.now) (state_of c.take_last.new.self.machine) c.in_ok-line.line bytes given c.args.out.now.items c.take_last.new.out.items h (c.in_ok-line.ensures.reads bytes given h)
+
+pub returns-then-not-is_behind_root-clause-stops : goal.returns-then-not-is_behind_root-clause-stops
+returns-then-not-is_behind_root-clause-stops c = λ bytes given h.
+    all_stops (state_of c.take_last.new.self.machine) c.in_ok-line.line bytes given c.args.out.now.items c.take_last.new.out.items (c.in_ok-line.ensures.reads bytes given h)

@@ -5,20 +5,20 @@ use Rattle.px_reader.specs.Reading.{IsFirstFault, fault_at}
 use Rattle.px_reader.specs.States.{state_of}
 use Rattle.px_reader.proofs.Feeding.{reading_as}
 use Rattle.px_reader.proofs.Readings.{read_line_ok, read_line_bad, read_line_big}
-use Rattle.px_reader.proofs.reader.Reader.end_line.Goals as goal
+use Rattle.px_reader.proofs.judge.Judge.end_line.Goals as goal
 
 pub returns-in_default-clause-fault : goal.returns-in_default-clause-fault
 returns-in_default-clause-fault c = λ bytes given h.
     let old = c.args.self.now in
     let big : 16_777_216 < old.extent.size + length c.args.part.now = c.in_default.ensures in
-    subst (λ fault. IsFirstFault (bytes ++ c.args.part.now) fault) (sym c.fault.ensures)
+    subst (λ fault. IsFirstFault (bytes ++ c.args.part.now) fault) (sym c.fault.ensures.same)
     (read_line_big (state_of old.machine) old.kept.items old.extent.size old.extent.lines bytes given c.args.part.now h.reading c.requires big)
 
 pub returns-in-Err-clause-fault : goal.returns-in-Err-clause-fault
 returns-in-Err-clause-fault c = λ bytes given h.
     let old = c.args.self.now in
     let fits : old.extent.size + length c.args.part.now ≤ 16_777_216 = let e = c.in-Some.ensures.1 in let b = c.in-Some.extent.bounded in omega arith in
-    let answer = c.fault-in-Err.ensures ∙ ap (λ (extent : Extent). fault_at (extent.lines + 1) c.in-Err.fault) c.in-Err.ensures.extent in
+    let answer = c.fault-in-Err.ensures.same ∙ ap (λ (extent : Extent). fault_at (extent.lines + 1) c.in-Err.fault) c.in-Err.ensures.extent in
     subst (λ fault. IsFirstFault (bytes ++ c.args.part.now) fault) (sym answer)
     (read_line_bad (state_of old.machine) old.kept.items old.extent.size old.extent.lines bytes given c.args.part.now c.in-Err.fault (state_of c.take_line.new.self.machine)
     c.args.out.now.items c.take_line.new.out.items h.reading c.requires fits c.in-Err.ensures.judged).0

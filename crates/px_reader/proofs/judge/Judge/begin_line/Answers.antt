@@ -3,13 +3,13 @@ use Rattle.std.proofs.Common.{◌++◌, ◌+◌, ◌<◌, ◌≤◌, length, sym
 use Rattle.px_reader.specs.Reading.{IsFirstFault}
 use Rattle.px_reader.specs.States.{state_of}
 use Rattle.px_reader.proofs.Readings.{read_part, read_part_big}
-use Rattle.px_reader.proofs.reader.Reader.begin_line.Goals as goal
+use Rattle.px_reader.proofs.judge.Judge.begin_line.Goals as goal
 
 pub returns-in_default-clause-fault : goal.returns-in_default-clause-fault
 returns-in_default-clause-fault c = λ bytes given h.
     let old = c.args.self.now in
     let big : 16_777_216 < old.extent.size + length c.args.part.now = c.in_default.ensures in
-    subst (λ fault. IsFirstFault (bytes ++ c.args.part.now) fault) (sym c.fault.ensures)
+    subst (λ fault. IsFirstFault (bytes ++ c.args.part.now) fault) (sym c.fault.ensures.same)
     (read_part_big (state_of old.machine) old.kept.items old.extent.size old.extent.lines bytes given c.args.part.now h.reading c.requires big)
 
 pub returns-clause-reads : goal.returns-clause-reads

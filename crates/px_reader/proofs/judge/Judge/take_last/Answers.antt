@@ -7,7 +7,10 @@ use Rattle.px_reader.specs.Reading.{IsLastFault}
 use Rattle.px_reader.specs.States.{state_of, Judging}
 use Rattle.px_reader.proofs.Feeding.{count_none, count_some}
 use Rattle.px_reader.proofs.Readings.{last_line_ok, last_line_bad, no_last_line}
-use Rattle.px_reader.proofs.reader.Reader.take_last.Goals as goal
+use Rattle.px_reader.specs.Bringing.{GivesUpTo}
+use Rattle.px_reader.specs.Progressing.{progress}
+use Rattle.px_reader.proofs.Stopping.{judging_appends, last_stops, stands_at}
+use Rattle.px_reader.proofs.judge.Judge.take_last.Goals as goal
 
 pub returns-then-is_empty-clause-reads : goal.returns-then-is_empty-clause-reads
 returns-then-is_empty-clause-reads c = λ bytes given h.
@@ -22,7 +25,7 @@ returns-in-Err-clause-fault c = λ bytes given h.
     let some : 0 < length old.kept.items = let l = count_some (vec_len old.kept) c.is_empty.result c.is_empty.ensures c.if-is_empty.false in omega arith in
     let judged : Judging (state_of old.machine) c.as_slice.result.now (Err c.in-Err.fault) (state_of c.judge.new.self) c.args.out.now.items c.judge.new.out.items = c.in-Err.ensures in
     let here = subst (λ line. Judging (state_of old.machine) line (Err c.in-Err.fault) (state_of c.judge.new.self) c.args.out.now.items c.judge.new.out.items) c.as_slice.ensures.value judged in
-    subst (λ fault. IsLastFault bytes fault) (sym c.fault.ensures)
+    subst (λ fault. IsLastFault bytes fault) (sym c.fault.ensures.same)
     (last_line_bad (state_of old.machine) old.kept.items old.extent.size old.extent.lines bytes given c.in-Err.fault (state_of c.judge.new.self)
     c.args.out.now.items c.judge.new.out.items h.reading some here).0
 
@@ -35,3 +38,13 @@ returns-clause-reads c = λ bytes given h.
     let (more, behind, all, count) = last_line_ok (state_of old.machine) old.kept.items old.extent.size old.extent.lines bytes given tt (state_of c.judge.new.self)
     c.args.out.now.items c.judge.new.out.items h.reading some here in
     (more, behind, all, count ∙ ap (λ n. n + 1) (sym c.lines-2.ensures.value))
+
+pub returns-in-Err-clause-stops : goal.returns-in-Err-clause-stops
+returns-in-Err-clause-stops c = λ bytes given h.
+    let old = progress c.args.self.now in
+    subst (λ fault. GivesUpTo fault bytes given c.args.out.now.items c.judge.new.out.items) (sym c.fault.ensures.same)
+    (last_stops old bytes given c.args.out.now.items c.judge.new.out.items c.as_slice.result.now c.in-Err.fault h c.in-Err.ensures.0 (stands_at (old.lines + 1) c.in-Err.fault) c.in-Err.ensures.1)
+
+pub returns-clause-appends : goal.returns-clause-appends
+returns-clause-appends c =
+    judging_appends (state_of c.args.self.now.machine) (state_of c.judge.new.self) c.as_slice.result.now c.judge.result c.args.out.now.items c.judge.new.out.items c.judge.ensures
