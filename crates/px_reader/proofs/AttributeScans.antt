@@ -8,8 +8,8 @@ use Rattle.px_text.specs.Names.{is_pyx_name, continues_name}
 use Rattle.px_reader.specs.declared.event.Event.TheVariants.{Attr}
 use Rattle.px_reader.specs.declared.fault.DocKind.TheVariants.{TooManyAttributes}
 use Rattle.px_reader.specs.declared.fault.LineFault.TheVariants.{Kind}
-use Rattle.px_reader.specs.declared.machine.Phase.{Phase}
-use Rattle.px_reader.specs.declared.machine.Phase.TheVariants as phases
+use Rattle.px_reader.specs.declared.phase.Phase.{Phase}
+use Rattle.px_reader.specs.declared.phase.Phase.TheVariants as phases
 use Rattle.px_reader.specs.Lines.{Gives, line_of, without_end, is_ended, has_no_feed}
 use Rattle.px_reader.specs.Machine.{Attributes, step}
 use Rattle.px_reader.specs.Plain.{has_no_escape, ends_plain}

@@ -12,7 +12,6 @@ pub mod Judged
 pub mod Prefixes
 pub mod Pieces
 pub mod Decided
-pub mod Steps
 pub mod Spaces
 pub mod Kept
 pub mod Ends
@@ -30,7 +29,6 @@ pub mod Stacked
 pub mod Buffered
 pub mod Pushed
 pub mod Scans
-pub mod ReadOn
 pub mod Plainness
 pub mod TextScans
 pub mod AttributeScans

@@ -9,8 +9,8 @@ use Rattle.std.proofs.lemmas.Slice.Eq.{bytes_eq-Decides}
 use Rattle.px_text.specs.Names.{is_pyx_name, begins_name, continues_name}
 use Rattle.px_reader.specs.declared.event.Event.{Event}
 use Rattle.px_reader.specs.declared.event.Event.TheVariants.{Start, Text, End}
-use Rattle.px_reader.specs.declared.machine.Phase.{Phase}
-use Rattle.px_reader.specs.declared.machine.Phase.TheVariants as phases
+use Rattle.px_reader.specs.declared.phase.Phase.{Phase}
+use Rattle.px_reader.specs.declared.phase.Phase.TheVariants as phases
 use Rattle.px_reader.specs.declared.fault.DocKind.TheVariants.{TooDeep}
 use Rattle.px_reader.specs.declared.fault.LineFault.TheVariants.{Kind}
 use Rattle.px_reader.specs.Lines.{Opens, Closes, named, line_of, without_end, is_ended}
@@ -140,10 +140,6 @@ last_of (first ∷ outer) name n e = ap (λ x. x ∷ outer) (sym e)
 
 pub first_is_name : (names : List (List ℕ)) (name : List ℕ) (outer : List (List ℕ)) → names ≡ name ∷ outer → list_all is_pyx_name names ≡ true → is_pyx_name name ≡ true
 first_is_name names name outer e n = (and_parts (is_pyx_name name) (list_all is_pyx_name outer) (subst (λ ns. list_all is_pyx_name ns ≡ true) e n)).0
-
--- nothing is owed
-pub nothing_owed : (told : Told) (text name attribute value : List ℕ) → told.text ≡ false → told.own ≡ Own.Nothing → told_events told text name attribute value ≡ []
-nothing_owed told text name attribute value t o = rw (t, o) refl
 
 -- `(name` where no element may open any more
 pub open_deep : (phase : Phase) (attributes : List (List ℕ)) (text name : List ℕ) (names : List (List ℕ)) → is_pyx_name name ≡ true → is_after (standing phase attributes text names) ≡ false → 512 ≤ length names →

@@ -1,8 +1,8 @@
 -- A line of text, the quick way.
 use Rattle.std.proofs.Common.{◌≡◌, ℕ, ◌+◌, ◌-◌, ◌<◌, ◌≤◌, true, false, not, List, [], ◌∷◌, ◌++◌, ◌==◌, length, take, drop, refl, ap, sym, ◌∙◌, subst, Some, Ok, arith, IsUtf8}
 use Rattle.std.proofs.lemmas.Bool.{and_parts}
-use Rattle.px_reader.specs.declared.machine.Phase.{Phase}
-use Rattle.px_reader.specs.declared.machine.Phase.TheVariants as phases
+use Rattle.px_reader.specs.declared.phase.Phase.{Phase}
+use Rattle.px_reader.specs.declared.phase.Phase.TheVariants as phases
 use Rattle.px_reader.specs.Lines.{Says, line_of, without_end, is_ended, has_no_feed}
 use Rattle.px_reader.specs.Machine.{Inside, step}
 use Rattle.px_reader.specs.Plain.{has_no_escape, ends_plain}

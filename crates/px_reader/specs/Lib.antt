@@ -17,7 +17,6 @@ pub mod Stacks
 pub mod Buffers
 pub mod Scanned
 pub mod Scanning
-pub mod ReadingOn
 pub mod Plain
 pub mod Records
 pub mod Recorded

@@ -3,8 +3,8 @@ use Rattle.std.specs.Prelude.{◌≡◌, ℕ, ◌≤◌, ◌<◌, Bool, true, fa
 use Rattle.px_reader.specs.declared.event.Event.{Event}
 use Rattle.px_reader.specs.declared.event.Event.TheVariants as event
 use Rattle.px_reader.specs.declared.fault.LineFault.{LineFault}
-use Rattle.px_reader.specs.declared.machine.Phase.{Phase}
-use Rattle.px_reader.specs.declared.machine.Phase.TheVariants as phases
+use Rattle.px_reader.specs.declared.phase.Phase.{Phase}
+use Rattle.px_reader.specs.declared.phase.Phase.TheVariants as phases
 use Rattle.px_reader.specs.declared.scanner.Own.{Own}
 use Rattle.px_reader.specs.declared.scanner.Own.TheVariants.{Nothing, Start, Attribute, End}
 use Rattle.px_reader.specs.declared.scanner.Told.{Told}

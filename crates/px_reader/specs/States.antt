@@ -1,12 +1,11 @@
 -- The state that the reader's machine is in, and what a line does to it.
-use Rattle.std.specs.Prelude.{◌≡◌, ℕ, ◌<◌, ◌≤◌, length, IsUtf8, Bool, true, false, List, [], ◌∷◌, ◌++◌, reverse, Option, Some, None, Result, Ok, Err}
+use Rattle.std.specs.Prelude.{◌≡◌, ℕ, ◌<◌, ◌≤◌, length, IsUtf8, Bool, true, false, List, [], ◌++◌, Option, Some, None, Result, Ok, Err}
 use Rattle.px_reader.specs.declared.event.Event.{Event}
 use Rattle.px_reader.specs.declared.fault.DocKind.TheVariants.{NotHere, NotUtf8, LineLong, TooDeep, TooManyAttributes, TooBig, Truncated}
 use Rattle.px_reader.specs.declared.fault.LineFault.{LineFault}
 use Rattle.px_reader.specs.declared.fault.LineFault.TheVariants.{Kind, LineMemory}
-use Rattle.px_reader.specs.declared.machine.Machine.{Machine}
-use Rattle.px_reader.specs.declared.machine.Phase.{Phase}
-use Rattle.px_reader.specs.declared.machine.Phase.TheVariants.{Start, Giving, Body}
+use Rattle.px_reader.specs.declared.phase.Phase.{Phase}
+use Rattle.px_reader.specs.declared.phase.Phase.TheVariants.{Start, Giving, Body}
 use Rattle.px_reader.specs.Lines.{Line, line_of, without_end, Opens, Closes, Gives, Says, Passed, Empty, Odd}
 use Rattle.px_reader.specs.Machine.{State, Before, Attributes, Inside, After, Step, step, open_in, attributes_in}
 
@@ -15,18 +14,6 @@ abbrev pub open_text : Phase → List ℕ → List ℕ
 open_text Start text = []
 open_text Giving text = []
 open_text Body text = text
-
--- the state with these names of open elements, the innermost first
-abbrev pub placed : Phase → List (List ℕ) → List ℕ → List (List ℕ) → State
-placed Start attributes text [] = Before
-placed Giving attributes text [] = After
-placed Body attributes text [] = After
-placed Start attributes text (name ∷ outer) = Inside [] name outer
-placed Giving attributes text (name ∷ outer) = Attributes (reverse attributes) name outer
-placed Body attributes text (name ∷ outer) = Inside text name outer
-
-abbrev pub state_of : Machine → State
-state_of m = placed m.phase m.attributes.items m.text.items (reverse m.names.items)
 
 abbrev pub is_after : State → Bool
 is_after Before = false

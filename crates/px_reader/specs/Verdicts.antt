@@ -19,10 +19,6 @@ abbrev pub closes : Line → Bool
 closes (Closes name) = true
 closes _ = false
 
-abbrev pub gives_one : Line → Bool
-gives_one (Gives name value) = true
-gives_one _ = false
-
 -- how many elements are open behind the lines
 abbrev pub depth : List Line → ℕ
 depth lines = count_by opens lines - count_by closes lines

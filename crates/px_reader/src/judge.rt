@@ -1,11 +1,13 @@
 //! The lines of a document that comes in pieces: each is judged when its end is there.
 
-ghost use Rattle.std.specs.Prelude.{◌≡◌, ◌++◌, ◌-◌, length, take, OnOk};
+ghost use Rattle.std.specs.Prelude.{◌≡◌, ◌++◌, ◌-◌, true, length, take, OnOk};
+ghost use Rattle.px_reader.specs.declared.scanner.Place.TheVariants as Place;
 
 use crate::event::Event;
 use crate::extent::Extent;
 use crate::fault::{DocFault, DocKind, LineFault, ReaderFault};
-use crate::machine::Machine;
+use crate::owned::judge_line;
+use crate::scanner::{Place, Scanner};
 use memchr::memchr;
 use std::alloc::{AllocError, Global};
 
@@ -16,11 +18,13 @@ const MAX_KEPT: usize = 1_048_579;
 #[derive(Drop)]
 pub struct Judge {
     alloc: Global,
-    machine: Machine,
+    scanner: Scanner,
     /// the line that the pieces so far have begun and not ended
     kept: Vec<u8>,
     extent: Extent,
     fault: Option<ReaderFault>,
+    ghost run: { scanner.run ≡ Place.Apart },
+    ghost value: { scanner.value ≡ Place.Apart },
 }
 
 impl Judge {
@@ -30,8 +34,8 @@ impl Judge {
     ghost use Rattle.px_reader.specs.Lines.{is_ended, has_no_feed};
     ghost use Rattle.px_reader.specs.Reading.{HasRead, HasFailed, ReadsPart, GivesMore, FailsBy, EndsWhole, FailsAtEnd, ReadsLines, IsClosed, IsStillOpen};
     ghost use Rattle.px_reader.specs.Bringing.{Appends, StopsBy, StopsAtEnd, StaysSmall, StandsAt};
-    ghost use Rattle.px_reader.specs.Progressing.{progress};
-    ghost use Rattle.px_reader.specs.States.{state_of, Judging};
+    ghost use Rattle.px_reader.specs.Progressing.{progress, state_apart};
+    ghost use Rattle.px_reader.specs.States.{Judging};
 
     /// Before the first document. It fails only where memory is refused.
     pub fn new(alloc: Global) -> Result<Judge, AllocError>
@@ -39,7 +43,7 @@ impl Judge {
     {
         Ok(Judge {
             alloc,
-            machine: Machine::new(alloc)?,
+            scanner: Scanner::new(alloc),
             kept: Vec::new(alloc),
             extent: Extent::start(),
             fault: None,
@@ -99,7 +103,7 @@ impl Judge {
         ensures closed { IsTrue result → IsClosed (progress self.now) }
         ensures open { IsFalse result → IsStillOpen (progress self.now) }
     {
-        self.machine.is_behind_root()
+        self.scanner.is_behind_root()
     }
 
     /// Takes the lines that end in the piece, and keeps what is behind them.
@@ -142,20 +146,27 @@ impl Judge {
 
     /// Judges the line that ends with the part, where it lies unless earlier pieces began it.
     fn take_line(&mut self, part: &[u8], out: &mut Vec<Event>) -> Result<(), LineFault>
+        requires { is_ended part.now ≡ true }
         ensures fault { self.new.fault ≡ self.old.fault }
         ensures extent { self.new.extent ≡ self.old.extent }
         ensures kept { OnOk result (self.new.kept.items ≡ []) }
         ensures appends { Appends out.old.items out.new.items }
         ensures given { OnErr result (out.new.items ≡ out.old.items) }
         ensures judged { (begun : List ℕ) → self.old.kept.items ≡ take 1_048_579 begun →
-            Judging (state_of self.old.machine) (begun ++ part.now) result (state_of self.new.machine)
+            Judging (state_apart self.old.scanner) (begun ++ part.now) result (state_apart self.new.scanner)
             out.old.items out.new.items }
     {
         if self.kept.is_empty() {
-            return self.machine.judge(self.alloc, part, out);
+            return judge_line(&mut self.scanner, self.alloc, part, true, out);
         }
         keep(&mut self.kept, part)?;
-        let judged = self.machine.judge(self.alloc, self.kept.as_slice(), out);
+        let judged = judge_line(
+            &mut self.scanner,
+            self.alloc,
+            self.kept.as_slice(),
+            false,
+            out,
+        );
         self.kept.clear();
         judged
     }
@@ -186,7 +197,7 @@ impl Judge {
         ensures stops { IfErr result (λ fault. StopsAtEnd (progress self.old) fault out.old.items out.new.items) }
     {
         let line = self.take_last(out)?;
-        if !self.machine.is_behind_root() {
+        if !self.scanner.is_behind_root() {
             return Err(ReaderFault::Doc(DocFault {
                 line,
                 kind: DocKind::Truncated,
@@ -198,7 +209,7 @@ impl Judge {
     /// Judges what no line feed ends, and counts all lines.
     fn take_last(&mut self, out: &mut Vec<Event>) -> Result<u64, ReaderFault>
         ensures reads { IfOk result (λ lines.
-            ReadsLines (progress self.old) (state_of self.new.machine) lines out.old.items out.new.items) }
+            ReadsLines (progress self.old) (state_apart self.new.scanner) lines out.old.items out.new.items) }
         ensures fault { IfErr result (λ fault. FailsAtEnd (progress self.old) fault) }
         ensures stops { IfErr result (λ fault. StopsAtEnd (progress self.old) fault out.old.items out.new.items) }
         ensures appends { Appends out.old.items out.new.items }
@@ -207,7 +218,13 @@ impl Judge {
         if self.kept.is_empty() {
             return Ok(self.extent.lines());
         }
-        if let Err(fault) = self.machine.judge(self.alloc, self.kept.as_slice(), out) {
+        if let Err(fault) = judge_line(
+            &mut self.scanner,
+            self.alloc,
+            self.kept.as_slice(),
+            false,
+            out,
+        ) {
             return Err(self.extent.fault(fault));
         }
         Ok(self.extent.lines() + 1)
@@ -217,7 +234,7 @@ impl Judge {
     fn clear(&mut self)
         ensures { HasRead (progress self.new) [] [] }
     {
-        self.machine.clear();
+        self.scanner.clear();
         self.kept.clear();
         self.extent = Extent::start();
         self.fault = None;

@@ -233,7 +233,12 @@ fn take_line(
 }
 
 /// Judges the line that begins at a place and is the last of the piece.
-fn judge(scanner: &mut Scanner, piece: &[u8], at: usize, is_text: bool) -> Result<Told, LineFault>
+pub fn judge(
+    scanner: &mut Scanner,
+    piece: &[u8],
+    at: usize,
+    is_text: bool,
+) -> Result<Told, LineFault>
     requires run { IsWithin piece.now scanner.old.run }
     requires value { IsWithin piece.now scanner.old.value }
     requires first { at < length piece.now }

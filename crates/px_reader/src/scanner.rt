@@ -10,7 +10,7 @@ ghost use Rattle.px_reader.specs.Plain.{IsPlain};
 ghost use Rattle.px_reader.specs.declared.scanner.Place.TheVariants as Place;
 ghost use Rattle.px_reader.specs.Stacks.{first_of, is_none};
 ghost use Rattle.px_reader.specs.Spelling.{is_among};
-ghost use Rattle.px_reader.specs.declared.machine.Phase.TheVariants as Phase;
+ghost use Rattle.px_reader.specs.declared.phase.Phase.TheVariants as Phase;
 ghost use Rattle.px_reader.specs.States.{is_after};
 
 mod long;
@@ -18,8 +18,8 @@ mod next;
 
 use crate::fault::LineFault;
 use crate::happening::Happening;
-use crate::machine::Phase;
 use crate::name_stack::NameStack;
+use crate::phase::Phase;
 use memchr::memchr2;
 use px_text::{begins_part, continues_part};
 use std::alloc::{AllocError, Global};

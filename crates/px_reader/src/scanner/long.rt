@@ -3,7 +3,7 @@
 ghost use Rattle.std.specs.Prelude.{◌≡◌, ◌≤◌, [], List, ℕ, true, false, length, vec_len, OnOk, OnErr};
 ghost use Rattle.px_text.specs.Escapes.{unescaped};
 ghost use Rattle.px_reader.specs.Lines.{Opens, Closes, Gives, Says, Passed, named, given_by, line_of, all_white};
-ghost use Rattle.px_reader.specs.declared.machine.Phase.TheVariants as Phase;
+ghost use Rattle.px_reader.specs.declared.phase.Phase.TheVariants as Phase;
 ghost use Rattle.px_reader.specs.declared.scanner.Place.TheVariants as Place;
 ghost use Rattle.px_reader.specs.Stacks.{is_none};
 ghost use Rattle.px_reader.specs.States.{open_text, is_giving};
@@ -11,7 +11,7 @@ ghost use Rattle.px_reader.specs.States.{open_text, is_giving};
 use super::{MAX_ATTRIBUTES, MAX_DEPTH, MAX_LINE, Own, Place, Scanner, Told};
 use crate::cuts::{split_at_space, without_end};
 use crate::fault::{DocKind, LineFault};
-use crate::machine::Phase;
+use crate::phase::Phase;
 use px_text::{is_letter, is_pyx_name, is_white, unescape};
 use std::alloc::AllocError;
 

@@ -2,7 +2,7 @@
 use Rattle.std.proofs.Common.{◌≡◌, ◌++◌, ◌∷◌, [], ◌+◌, ◌-◌, ◌<◌, ◌≤◌, true, take, drop, length, length-drop, get_or, refl, ap, sym, ◌∙◌, subst, Ok, arith, IsUtf8}
 use Rattle.std.proofs.lemmas.List.{length-take-le}
 use Rattle.px_text.specs.Names.{is_pyx_name}
-use Rattle.px_reader.specs.declared.machine.Phase.TheVariants as phases
+use Rattle.px_reader.specs.declared.phase.Phase.TheVariants as phases
 use Rattle.px_reader.specs.Lines.{is_ended}
 use Rattle.px_reader.specs.declared.event.Event.TheVariants.{Attr}
 use Rattle.px_reader.specs.Stacks.{first_of}

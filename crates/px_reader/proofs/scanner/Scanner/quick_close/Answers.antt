@@ -2,7 +2,7 @@
 use Rattle.std.proofs.Common.{◌≡◌, ◌++◌, ◌∷◌, [], ◌+◌, ◌<◌, ◌≤◌, true, length, refl, ap, sym, ◌∙◌, subst, Ok, arith, IsUtf8, if◌then◌else◌}
 use Rattle.px_text.specs.Names.{is_pyx_name}
 use Rattle.px_reader.specs.declared.event.Event.TheVariants.{End, Text}
-use Rattle.px_reader.specs.declared.machine.Phase.TheVariants as phases
+use Rattle.px_reader.specs.declared.phase.Phase.TheVariants as phases
 use Rattle.px_reader.specs.Lines.{is_ended}
 use Rattle.px_reader.specs.Scanned.{bytes_at, IsWithin, line_to}
 use Rattle.px_reader.specs.Scanning.{standing, state_in, told_events}

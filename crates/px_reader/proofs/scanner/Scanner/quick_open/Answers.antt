@@ -3,7 +3,7 @@ use Rattle.std.proofs.Common.{◌≡◌, ◌++◌, ◌∷◌, [], ◌+◌, ◌<�
 use Rattle.std.proofs.lemmas.List.{length-take-le}
 use Rattle.px_text.specs.Names.{is_pyx_name}
 use Rattle.px_reader.specs.declared.event.Event.TheVariants.{Start, Text}
-use Rattle.px_reader.specs.declared.machine.Phase.TheVariants as phases
+use Rattle.px_reader.specs.declared.phase.Phase.TheVariants as phases
 use Rattle.px_reader.specs.Lines.{is_ended}
 use Rattle.px_reader.specs.Scanned.{bytes_at, IsWithin, run_of, line_to}
 use Rattle.px_reader.specs.Scanning.{standing, state_in, told_events}
