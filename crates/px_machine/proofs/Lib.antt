@@ -1,5 +1,7 @@
-pub mod Kept
-pub mod Unread
+pub mod Shelved
+pub mod Tabled
 pub mod Numbered
+pub mod Kept
 pub mod Held
 pub mod Moved
+pub mod Unread

@@ -27,6 +27,13 @@ AreHeld states sets numbers text _ _ = ⊥
 abbrev pub program_of : Machine → Automata
 program_of machine = machine.facts.automata
 
+-- the bytes that it remembers, and those that it may remember from one document to the next
+abbrev pub bytes_of : Machine → ℕ
+bytes_of machine = machine.facts.bytes
+
+abbrev pub bound_of : Machine → ℕ
+bound_of machine = machine.bound
+
 -- Its frames are the elements that are open.
 pub record IsAt (machine : Machine) (opened : Opened) : Type 0 where
   pub held : AreHeld machine.facts.automata.states machine.facts.sets machine.gathered.items machine.text.items

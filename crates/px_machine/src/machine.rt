@@ -13,7 +13,7 @@ ghost use Rattle.px_afa.specs.Contents.{root_content};
 ghost use Rattle.px_afa.specs.Machine.{machine_of};
 ghost use Rattle.px_afa.specs.Accepting.{HaveSteps, accepted};
 ghost use Rattle.px_runner.specs.Events.{Opened, with_child, values_in, begun, after_end, after_event};
-ghost use Rattle.px_machine.specs.Machines.{IsAt, HasRun, program_of, given_numbers};
+ghost use Rattle.px_machine.specs.Machines.{IsAt, HasRun, program_of, bytes_of, bound_of, given_numbers};
 
 use crate::facts::Facts;
 use crate::frame::Frame;
@@ -27,13 +27,15 @@ use std::sync::Arc;
 // For how many open elements, sets and bytes of text there is room at first.
 const FIRST_ROOM: usize = 64;
 
-// How many sets may be remembered from one document to the next.
-const MOST_SETS: usize = 1_000_000;
+// How many bytes may be remembered from one document to the next.
+const MOST_BYTES: u64 = 134_217_728;
 
 /// The machine of a program, before a document or in the midst of one.
 #[derive(Drop)]
 pub struct Machine {
     facts: Facts,
+    // how many bytes it may remember from one document to the next
+    bound: u64,
     // the innermost open element, or the document root where no element is open
     innermost: Frame,
     // those round it, the document root first
@@ -45,13 +47,28 @@ pub struct Machine {
 }
 
 impl Machine {
-    /// A machine before the first event of a document. It takes memory for a few open elements and
-    /// a short text, and fails only where that is refused.
+    /// A machine before the first event of a document, which remembers at most 134,217,728 bytes
+    /// from one document to the next. It takes memory for a few open elements and a short text, and
+    /// fails only where that is refused.
     pub fn new(alloc: Global, compiled: Arc<Compiled>) -> Result<Machine, AllocError>
         ensures new { IfOk result (λ machine. HasRun machine (arc_value compiled) []) }
+        ensures bound { IfOk result (λ machine. bound_of machine ≡ 134_217_728) }
+    {
+        Machine::bounded(alloc, compiled, MOST_BYTES)
+    }
+
+    /// The same with another bound. With one of 0 it forgets all behind each document.
+    pub fn bounded(
+        alloc: Global,
+        compiled: Arc<Compiled>,
+        bound: u64,
+    ) -> Result<Machine, AllocError>
+        ensures new { IfOk result (λ machine. HasRun machine (arc_value compiled) []) }
+        ensures bound { IfOk result (λ machine. bound_of machine ≡ bound) }
     {
         Ok(Machine {
             facts: Facts::new(alloc, compiled),
+            bound,
             innermost: ground_frame(),
             outer: Vec::with_capacity(alloc, FIRST_ROOM)?,
             gathered: Vec::with_capacity(alloc, FIRST_ROOM)?,
@@ -59,18 +76,21 @@ impl Machine {
         })
     }
 
-    /// Takes the next event of a document. After `AllocError` it may only be dropped, or restarted.
+    /// Takes the next event of a document. What it remembers may come to exceed the bound, by what
+    /// the document alone brings. After `AllocError` it may only be dropped, or restarted.
     pub fn event(&mut self, next: Happening<'_>) -> Result<(), AllocError>
         requires begun { (automata : Automata) × (given : List Happened) × HasRun self.old automata given }
         ensures same { program_of self.new ≡ program_of self.old }
+        ensures bound { bound_of self.new ≡ bound_of self.old }
         ensures ok { OnOk result ((automata : Automata) (given : List Happened) → HasRun self.old automata given → HasRun self.new automata (given ++ (event_of next.entry) ∷ [])) }
     {
         self.take(next)
     }
 
     /// The ids of the filters that hold of the document, rising, when all its events have been
-    /// taken. The machine is then before the next document, and remembers at most 1,000,000 sets.
-    /// After `AllocError` it may only be dropped, or restarted.
+    /// taken. The machine is then before the next document, and remembers no more bytes than its
+    /// bound; what would take more is forgotten. After `AllocError` it may only be dropped, or
+    /// restarted.
     pub fn finish(&mut self) -> Result<Ids, AllocError>
         requires whole { (automata : Automata) × (root : Root) × HasRun self.old automata (events_of root) }
         ensures accepted { IfOk result (λ ids. (automata : Automata) (root : Root) → HasRun self.old automata (events_of root) →
@@ -78,7 +98,8 @@ impl Machine {
         ensures matches { IfOk result (λ ids. (history : List Change) (root : Root) → HaveSteps (live history) →
             HasRun self.old (afa.program history) (events_of root) → ids ≡ matches history root) }
         ensures ready { OnOk result (HasRun self.new (program_of self.old) []) }
-        ensures few { OnOk result (length self.new.facts.sets ≤ 1_000_000) }
+        ensures few { OnOk result (bytes_of self.new ≤ bound_of self.new) }
+        ensures bound { bound_of self.new ≡ bound_of self.old }
     {
         let ids = self
             .facts
@@ -91,21 +112,30 @@ impl Machine {
     /// memory.
     pub fn restart(&mut self)
         ensures ready { HasRun self.new (program_of self.old) [] }
-        ensures few { length self.new.facts.sets ≤ 1_000_000 }
+        ensures few { bytes_of self.new ≤ bound_of self.new }
+        ensures bound { bound_of self.new ≡ bound_of self.old }
     {
         self.innermost = ground_frame();
         self.outer.clear();
         self.gathered.clear();
         self.text.clear();
-        if self.facts.len() > MOST_SETS {
+        if self.facts.bytes() > u128::from(self.bound) {
             self.facts.forget();
         }
+    }
+
+    /// The bytes that what it remembers takes. It takes no memory.
+    pub fn bytes(&self) -> u128
+        ensures bytes { result ≡ bytes_of self.now }
+    {
+        self.facts.bytes()
     }
 
     // The next event, whatever came before.
     fn take(&mut self, next: Happening<'_>) -> Result<(), AllocError>
         requires at { (opened : Opened) × IsAt self.old opened }
         ensures same { program_of self.new ≡ program_of self.old }
+        ensures bound { bound_of self.new ≡ bound_of self.old }
         ensures ok { OnOk result ((opened : Opened) → IsAt self.old opened → IsAt self.new (after_event (program_of self.old).states opened (event_of next.entry))) }
     {
         match next {
@@ -126,6 +156,7 @@ impl Machine {
     fn leaf(&mut self, label: u32, value: &[u8], said: &[u8]) -> Result<(), AllocError>
         requires at { (opened : Opened) × IsAt self.old opened }
         ensures same { program_of self.new ≡ program_of self.old }
+        ensures bound { bound_of self.new ≡ bound_of self.old }
         ensures ok { OnOk result ((opened : Opened) → IsAt self.old opened → IsAt self.new
             (record { innermost = with_child (program_of self.old).states opened.innermost (values_in (program_of self.old).states value.now) label said.now; outer = opened.outer })) }
     {
@@ -141,6 +172,7 @@ impl Machine {
     fn start(&mut self, label: u32) -> Result<(), AllocError>
         requires at { (opened : Opened) × IsAt self.old opened }
         ensures same { program_of self.new ≡ program_of self.old }
+        ensures bound { bound_of self.new ≡ bound_of self.old }
         ensures ok { OnOk result ((opened : Opened) → IsAt self.old opened → IsAt self.new (begun (program_of self.old).states opened label)) }
     {
         let child = Frame {
@@ -157,16 +189,20 @@ impl Machine {
     fn end(&mut self) -> Result<(), AllocError>
         requires at { (opened : Opened) × IsAt self.old opened }
         ensures same { program_of self.new ≡ program_of self.old }
+        ensures bound { bound_of self.new ≡ bound_of self.old }
         ensures ok { OnOk result ((opened : Opened) → IsAt self.old opened → IsAt self.new (after_end (program_of self.old).states opened.innermost opened.outer)) }
     {
         let Some(parent) = self.outer.pop() else {
             return Ok(());
         };
+        let begin = self.innermost.gathered;
         let values = self.facts.text_values(&self.text[self.innermost.text..])?;
-        let mut numbers = self.gathered.split_off(self.innermost.gathered)?;
-        numbers.push(values)?;
-        let given = self.facts.gift(numbers, self.innermost.label)?;
+        self.gathered.push(values)?;
+        let given = self
+            .facts
+            .gift(&self.gathered[begin..], self.innermost.label)?;
         self.facts.first_is_empty();
+        self.gathered.truncate(begin);
         give(&mut self.gathered, given)?;
         self.innermost = parent;
         Ok(())
