@@ -1,35 +1,48 @@
-//! The machine beside the plain evaluator, over the documents of a feed.
+//! The two machines beside the plain evaluator, over the documents of a feed.
 
-ghost use Rattle.std.specs.Prelude.{◌≡◌, OnOk};
+ghost use Rattle.std.specs.Prelude.{◌≡◌, [], OnOk};
+ghost use Rattle.px_afa.specs.Building.{Automata};
+ghost use Rattle.px_machine.specs.Machines.{HasRun};
 
-use crate::document::{events_of, ids_by_machine, ids_by_meaning};
+use crate::document::{events_of, ids_by_machine, ids_by_meaning, ids_by_runner};
 use crate::trouble::Trouble;
 use crate::workload::{add, filters};
 use px_afa::Program;
 use px_feed::{Item, Items, Taken};
 use px_io::Source;
+use px_machine::Machine;
+use px_prune::Compiled;
 use px_reader::Doc;
 use px_runner::PrivateMemo;
+use px_text::Ids;
 use px_workload::Journal;
 use px_xpath::Numbered;
 use std::alloc::Global;
+use std::sync::Arc;
 
 /// The most items that are read.
 const MOST_ITEMS: u64 = 1_000_000_000_000;
+
+/// How many bytes the machine of `serial` may remember here: so few that it forgets all again and
+/// again.
+const FEW_BYTES: u64 = 4_096;
 
 /// What a comparison has counted.
 #[derive(Clone, Copy, Debug, Drop)]
 pub struct Counts {
     /// the documents
     pub documents: u64,
-    /// the ids that the machine gave for them
+    /// the ids that the plain evaluator gave for them
     pub ids: u64,
-    /// the documents for which the two give other ids
+    /// the ids of a document that a machine gave, and that differ from those
     pub differences: u64,
+    /// the documents behind which the machine of `serial` had forgotten all
+    pub forgotten: u64,
 }
 
-/// Compares the two over all documents of a feed, each under the filters that stand before it. The
-/// documents between two adds are taken by one machine, which remembers its steps.
+/// Compares the machines with the plain evaluator over all documents of a feed, each under the
+/// filters that stand before it. The documents between two adds are taken by one machine of either
+/// kind, which remembers what it found.
 pub fn compare<S: Source>(alloc: Global, source: &mut S) -> Result<Counts, Trouble> {
     let mut items = Items::new(alloc)?;
     let mut journal = Journal::new(alloc);
@@ -38,6 +51,7 @@ pub fn compare<S: Source>(alloc: Global, source: &mut S) -> Result<Counts, Troub
         documents: 0,
         ids: 0,
         differences: 0,
+        forgotten: 0,
     };
     for _ in 0..MOST_ITEMS {
         let Some(item) = next_item(&mut items, source)? else {
@@ -87,7 +101,7 @@ fn keep(documents: &mut Vec<Doc>, doc: Doc) -> Result<(), Trouble> {
     }
 }
 
-/// Compares the two over documents, under the filters of a journal.
+/// Compares over documents, under the filters of a journal.
 fn compare_all(
     alloc: Global,
     journal: &Journal,
@@ -98,44 +112,43 @@ fn compare_all(
         return Ok(());
     }
     let live = filters(alloc, journal)?;
-    let program = Program::build(alloc, live.as_slice())?;
-    compare_each(alloc, &program, live.as_slice(), documents, counts)
+    let compiled = Compiled::of(alloc, Program::build(alloc, live.as_slice())?)?;
+    compare_each(alloc, &compiled, live.as_slice(), documents, counts)
 }
 
-/// Compares the two over documents, under filters and their program.
+/// Compares over documents, under filters and their program.
 fn compare_each(
     alloc: Global,
-    program: &Program,
+    compiled: &Arc<Compiled>,
     filters: &[Numbered],
     documents: &[Doc],
     counts: &mut Counts,
 ) -> Result<(), Trouble> {
+    let program = compiled.program();
     let mut memo = PrivateMemo::new(alloc, program)?;
+    let mut machine = Machine::bounded(alloc, compiled.clone()?, FEW_BYTES)?;
     for doc in documents {
-        compare_one(alloc, program, &mut memo, filters, doc, counts)?;
+        let events = events_of(alloc, doc)?;
+        let meaning = ids_by_meaning(alloc, filters, &events)?;
+        let runner = ids_by_runner(alloc, program, &mut memo, &events)?;
+        let ids = ids_by_machine(&mut machine, &events)?;
+        counts.count(&meaning, &[&runner, &ids], machine.bytes() == 0);
     }
     Ok(())
 }
 
-/// Compares the two over one document.
-fn compare_one(
-    alloc: Global,
-    program: &Program,
-    memo: &mut PrivateMemo,
-    filters: &[Numbered],
-    doc: &Doc,
-    counts: &mut Counts,
-) -> Result<(), Trouble>
-    requires program { memo.old.states ≡ program.now.states }
-    ensures same { OnOk result (memo.new.states ≡ memo.old.states) }
-{
-    let events = events_of(alloc, doc)?;
-    let machine = ids_by_machine(alloc, program, memo, &events)?;
-    let meaning = ids_by_meaning(alloc, filters, &events)?;
-    counts.documents = counts.documents.saturating_add(1);
-    counts.ids = counts.ids.saturating_add(machine.as_slice().len() as u64);
-    if machine.as_slice() != meaning.as_slice() {
-        counts.differences = counts.differences.saturating_add(1);
+impl Counts {
+    /// Counts a document, of which these ids are right, and others gave these.
+    fn count(&mut self, right: &Ids, given: &[&Ids], forgot: bool) {
+        self.documents = self.documents.saturating_add(1);
+        self.ids = self.ids.saturating_add(right.as_slice().len() as u64);
+        for ids in given {
+            if ids.as_slice() != right.as_slice() {
+                self.differences = self.differences.saturating_add(1);
+            }
+        }
+        if forgot {
+            self.forgotten = self.forgotten.saturating_add(1);
+        }
     }
-    Ok(())
 }

@@ -1,12 +1,17 @@
-//! The events of a document, and its ids by the machine and by the plain evaluator.
+//! The events of a document, and its ids by the two machines and by the plain evaluator.
 
-ghost use Rattle.std.specs.Prelude.{◌≡◌, ◌<◌, ◌≤◌, ◌^◌, length, IfOk, OnOk};
+ghost use Rattle.std.specs.Prelude.{◌≡◌, ◌<◌, ◌≤◌, ◌^◌, ◌++◌, List, [], length, IfOk, OnOk};
+ghost use Rattle.px_reader.specs.declared.event.Event.{Event as Happened};
+ghost use Rattle.px_afa.specs.Building.{Automata};
+ghost use Rattle.px_machine.specs.Machines as machines;
+ghost use Rattle.px_machine.specs.Machines.{program_of};
 ghost use Rattle.px_text.specs.Nodes.{Root};
 ghost use Rattle.px_reader.specs.Spelling as spelling;
 ghost use Rattle.px_runner.specs.Running.{HasRun};
 
 use crate::trouble::Trouble;
 use px_afa::Program;
+use px_machine::Machine;
 use px_meaning::holds;
 use px_reader::{Doc, Event, Reader};
 use px_runner::{Memo, Runner};
@@ -29,8 +34,31 @@ pub fn events_of(alloc: Global, doc: &Doc) -> Result<Vec<Event>, Trouble>
     Ok(events)
 }
 
-/// The ids of the filters that hold of a document, by the machine.
-pub fn ids_by_machine<M: Memo>(
+/// The ids of the filters that hold of a document, by the machine of `serial`, which is then before
+/// the next document.
+pub fn ids_by_machine(machine: &mut Machine, events: &[Event]) -> Result<Ids, AllocError>
+    requires ready { (program : Automata) × machines.HasRun machine.old program [] }
+    requires tree { (root : Root) × (events.now ≡ spelling.events_of root) }
+    ensures ready { OnOk result (machines.HasRun machine.new (program_of machine.old) []) }
+{
+    take_all(machine, events)?;
+    machine.finish()
+}
+
+/// Gives the machine all events of a document.
+fn take_all(machine: &mut Machine, events: &[Event]) -> Result<(), AllocError>
+    requires ready { (program : Automata) × machines.HasRun machine.old program [] }
+    ensures ok { OnOk result ((program : Automata) → machines.HasRun machine.old program [] → machines.HasRun machine.new program events.now) }
+    ensures same { program_of machine.new ≡ program_of machine.old }
+{
+    for event in events {
+        machine.event(event.seen())?;
+    }
+    Ok(())
+}
+
+/// The ids of the filters that hold of a document, by the machine that makes steps.
+pub fn ids_by_runner<M: Memo>(
     alloc: Global,
     program: &Program,
     memo: &mut M,

@@ -2,8 +2,9 @@
 //! on it.
 //!
 //! `px_trial compare` reads a feed of adds and documents from standard input, computes the ids of
-//! each document by the machine and by the plain evaluator, and prints how many documents there
-//! were, how many ids, and for how many documents the two differ. It ends with 1 where they do.
+//! each document by the two machines and by the plain evaluator, and prints how many documents
+//! there were, how many ids, how often a machine gave other ids than the plain evaluator, and how
+//! often the machine of `serial` had forgotten all. It ends with 1 where ids differ.
 //!
 //! `px_trial read` reads a document from standard input, with no machine behind it, and prints how
 //! many events it has.
@@ -62,8 +63,11 @@ fn print_comparison<S: Source>(
         documents,
         ids,
         differences,
+        forgotten,
     } = compare(rt.alloc(), source)?;
-    match println!(rt; "documents={documents} ids={ids} differences={differences}") {
+    match println!(rt;
+        "documents={documents} ids={ids} differences={differences} forgotten={forgotten}"
+    ) {
         Ok(()) => Ok(if differences == 0 { 0 } else { 1 }),
         Err(_) => Err(Trouble::Write),
     }
