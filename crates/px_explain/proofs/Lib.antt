@@ -9,3 +9,4 @@ pub mod Bounded
 pub mod Written
 pub mod Numerals
 pub mod ReadBack
+pub mod Incoming

@@ -14,6 +14,7 @@ use Rattle.px_text.specs.Numbers.{value, is_empty}
 use Rattle.px_explain.specs.declared.node.ProofNode.{ProofNode}
 use Rattle.px_explain.specs.declared.node.ProofNode.TheVariants.{Y, N, T, C, R, V, A, B, O, P, Bang}
 use Rattle.px_explain.specs.Bounds.{has_above}
+use Rattle.px_explain.specs.Openings.{has_no_feed}
 use Rattle.px_explain.specs.Texts.{words, BeginsWithLine}
 use Rattle.px_text.proofs.Digits.{digit_between}
 use Rattle.px_explain.specs.Lines.{is_numeral, number_of, at_letter, letters, numbered_letters, node_of}
@@ -158,6 +159,11 @@ node_words Bang h = refl
 pub no_feed : List ℕ → Bool
 no_feed [] = true
 no_feed (b ∷ bs) = not (nat_eq b 10) && no_feed bs
+
+pub no_feed_is : (bs : List ℕ) → no_feed bs ≡ has_no_feed bs
+unfolding no_feed
+no_feed_is [] = refl
+no_feed_is (b ∷ bs) = ap (λ (t : Bool). not (nat_eq b 10) && t) (no_feed_is bs)
 
 digits_no_feed : (ds : List ℕ) → list_all is_digit ds ≡ true → no_feed ds ≡ true
 unfolding no_feed

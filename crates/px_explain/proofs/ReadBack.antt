@@ -12,7 +12,7 @@ use Rattle.px_explain.specs.Texts.{words, text_of, BeginsWithLine}
 use Rattle.px_explain.specs.Refusing.{Refuses}
 use Rattle.px_explain.proofs.Numerals.{words_no_feed, split_once, node_words}
 
-none_of : (a b : Bool) → (a || b) ≡ false → (a ≡ false) × (b ≡ false)
+pub none_of : (a b : Bool) → (a || b) ≡ false → (a ≡ false) × (b ≡ false)
 none_of true b h = absurd (apart h)
   where
     apart : true ≡ false → ⊥

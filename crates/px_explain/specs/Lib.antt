@@ -11,3 +11,5 @@ pub mod Failing
 pub mod Texts
 pub mod Lines
 pub mod Refusing
+pub mod Openings
+pub mod Incoming

@@ -6,7 +6,8 @@
 //! (`specs/Table.antt`). [`explain`] gives the canonical proof (`specs/Canonical.antt`), and
 //! [`check`] says what any list of nodes shows. That the one accepts the other, and that what is
 //! shown is so, are laws of the definitions ([`canonical_is_accepted`], [`justified_is_so`]).
-//! [`write_proof`] and [`read_proof`] are the text of a proof, a line for each node.
+//! [`write_proof`] and [`read_proof`] are the text of a proof, a line for each node, and a
+//! [`ProofReader`] takes the lines of one in pieces, up to a line `=` with a document behind it.
 //!
 //! It stands on the plain evaluator, and knows no machine.
 #![tactic(auto, using(px_xpath::proofs::FilterViews::views, px_tree::proofs::TreeViews::views, px_meaning::proofs::Weights::steps, crate::proofs::Seeking::seeking))]
@@ -22,6 +23,7 @@ mod lines;
 mod node;
 mod places;
 mod proof;
+mod proof_reader;
 mod reading;
 mod serving;
 #[cfg(test)]
@@ -35,5 +37,6 @@ pub use laws::{canonical_is_accepted, justified_is_so};
 pub use lines::node_of;
 pub use node::ProofNode;
 pub use proof::Proof;
+pub use proof_reader::ProofReader;
 pub use reading::{ProofFault, read_proof};
 pub use writer::write_proof;

@@ -1,6 +1,10 @@
 //! Proofs as lists of nodes.
 
-ghost use Rattle.std.specs.Prelude.{◌≡◌, ◌≤◌, length};
+ghost use Rattle.std.specs.Prelude.{◌≡◌, ◌≤◌, Bool, length};
+ghost use Rattle.px_text.specs.Nodes.{Root};
+ghost use Rattle.px_xpath.specs.Filters.{Way};
+ghost use Rattle.px_explain.specs.Table.{Justifies};
+ghost use Rattle.px_explain.specs.Checking as checking;
 
 use crate::node::ProofNode;
 use std::marker::Model;
@@ -40,5 +44,26 @@ impl Proof {
         ensures few { length self.now ≤ 100_000 }
     {
         self.nodes.as_slice()
+    }
+
+    /// Whether the proof is one of `yes`. What it shows of a filter and a document, if it shows
+    /// anything, is this answer.
+    pub fn says_yes(&self) -> bool
+        ensures { (filter : Way) (root : Root) (answer : Bool) → Justifies filter root self.now answer → result ≡ answer }
+    {
+        match self.nodes.as_slice().split_first() {
+            Some((first, _)) => proves_path(first),
+            None => false,
+        }
+    }
+}
+
+/// Whether a node proves that a path holds.
+fn proves_path(node: &ProofNode) -> bool
+    ensures { result ≡ checking.proves_path node.now }
+{
+    match node {
+        ProofNode::Y(_) => true,
+        _ => false,
     }
 }

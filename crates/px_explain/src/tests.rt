@@ -1,6 +1,8 @@
 //! Texts from outside, and a proof that is made, written, read and checked.
 
-use crate::{Checked, ExplainFault, ProofFault, check, explain, read_proof, write_proof};
+use crate::{
+    Checked, ExplainFault, ProofFault, ProofReader, check, explain, read_proof, write_proof,
+};
 use px_text::Bytes;
 use px_tree::{Element, Node, Tree};
 use px_xpath::parse;
@@ -146,6 +148,85 @@ fn reads_at_most_a_hundred_thousand_lines(rt: HostRuntime) -> Result<(), Fail> {
     match read_proof(alloc, text.as_slice()) {
         Err(ProofFault::TooMany) => {}
         _ => assert!(rt; false),
+    }
+    Ok(())
+}
+
+/// How a proof in front of a document is read.
+#[derive(Clone, Copy, Debug, Drop, PartialEq, Eq)]
+enum Read {
+    /// So many nodes, and so many bytes of the document.
+    Whole(usize, usize),
+    Fault(ProofFault),
+}
+
+/// Reads the text in pieces of so many bytes.
+fn read_pieces(alloc: Global, text: &[u8], size: usize) -> Read {
+    let mut reader = ProofReader::new(alloc);
+    let mut rest = text;
+    while !rest.is_empty() {
+        let (piece, behind) = rest.split_at(size.min(rest.len()));
+        rest = behind;
+        match reader.feed(piece) {
+            Ok(Some(document)) => {
+                let count = document.len() + rest.len();
+                return Read::Whole(reader.finish().as_slice().len(), count);
+            }
+            Ok(None) => {}
+            Err(fault) => return Read::Fault(fault),
+        }
+    }
+    Read::Fault(reader.end())
+}
+
+#[test]
+fn reads_a_proof_up_to_its_end_line(rt: HostRuntime) -> Result<(), Fail> {
+    let alloc = rt.alloc();
+    let not_at = |line| Read::Fault(ProofFault::NotAProof { line });
+    for (text, wanted) in [
+        (b"y 1\ny 1\n=\n(a\n".as_slice(), Read::Whole(2, 3)),
+        (b"=\n", Read::Whole(0, 0)),
+        (b"=\n=\n", Read::Whole(0, 2)),
+        (b"y 1\nq\n=\n", not_at(2)),
+        (b"y 1\n=", not_at(2)),
+        (b"y 1\n=\r\n", not_at(2)),
+        (b"y 1\n", not_at(2)),
+        (b"", not_at(1)),
+        (b"\n=\n", not_at(1)),
+        (b"y 4294967295\n=\n", Read::Whole(1, 0)),
+        (b"y 123456789012345", not_at(1)),
+    ] {
+        for size in [1, 3, 100] {
+            assert_eq!(rt; read_pieces(alloc, text, size), wanted);
+        }
+    }
+    Ok(())
+}
+
+#[test]
+fn reads_at_most_a_hundred_thousand_lines_before_a_document(rt: HostRuntime) -> Result<(), Fail> {
+    let alloc = rt.alloc();
+    for (last, wanted) in [
+        (b"=\n(a\n".as_slice(), Read::Whole(100_000, 3)),
+        (b"t\n=\n", Read::Fault(ProofFault::TooMany)),
+        (b"=", Read::Fault(ProofFault::TooMany)),
+        (b"", Read::Fault(ProofFault::NotAProof { line: 100_001 })),
+    ] {
+        let mut text = lines_t(alloc, 100_000)?;
+        text.extend_from_slice(last)?;
+        assert_eq!(rt; read_pieces(alloc, text.as_slice(), 65_536), wanted);
+    }
+    Ok(())
+}
+
+#[test]
+fn a_proof_says_its_answer(rt: HostRuntime) -> Result<(), Fail> {
+    let alloc = rt.alloc();
+    for (text, yes) in [(b"y 1\n".as_slice(), true), (b"n 0\n", false), (b"", false)] {
+        match read_proof(alloc, text) {
+            Ok(proof) => assert_eq!(rt; proof.says_yes(), yes),
+            Err(_) => assert!(rt; false),
+        }
     }
     Ok(())
 }
