@@ -1,0 +1,22 @@
+//! One document that is read from a source, and what `explain` and `verify` find of it.
+//!
+//! A [`Document`] takes the bytes of a document piece by piece, and gives its tree at the end of
+//! the source. [`explanation`] is what a filter and a document are explained by, and
+//! [`verification`] what a proof shows of them: each answers one [`Finding`], whose text and status
+//! are those of the run. What is found is defined in `specs/Outputs.antt`.
+#![tactic(auto)]
+
+mod document;
+mod explaining;
+mod finding;
+mod opening;
+mod stop;
+#[cfg(test)]
+mod tests;
+mod verifying;
+
+pub use document::Document;
+pub use explaining::explanation;
+pub use finding::{Finding, text_of};
+pub use stop::{Cut, Stop};
+pub use verifying::verification;
