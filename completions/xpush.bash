@@ -4,7 +4,7 @@ _xpush() {
     local word=${COMP_WORDS[COMP_CWORD]} options option given
     COMPREPLY=()
     if [ "$COMP_CWORD" -eq 1 ]; then
-        mapfile -t COMPREPLY < <(compgen -W "serial match show make" -- "$word")
+        mapfile -t COMPREPLY < <(compgen -W "serial match show explain verify make" -- "$word")
         return
     fi
     [ "${COMP_WORDS[1]}" = make ] || return

@@ -22,17 +22,18 @@ PAGE = "docs/xpush.1"
 ESCAPES = {r"\(dq": '"', r"\(aq": "'", r"\-": "-", r"\e": "\\"}
 # what the README and the man page both have to name: commands, kinds of refusal, limits
 NAMED = (
-    "serial match show make not-a-filter too-long too-nested number-long unknown too-large no-versions "
+    "serial match show explain verify make too-many not-a-filter too-long too-nested number-long unknown too-large no-versions "
     "not-here not-utf8 line-long too-deep too-many-attributes too-big feed-long truncated").split()
-LIMITS = [16_777_216, 1_048_576, 512, 256, 4_096, 64, 18, 500_000, 1_048_575, 1_099_511_627_776, 50_000, 100_000, 2_147_483_647]
+LIMITS = [16_777_216, 1_048_576, 512, 256, 4_096, 64, 18, 500_000, 1_048_575, 1_099_511_627_776, 50_000, 100_000, 2_147_483_647, 4_294_967_295]
 # the words that are typed, and what is offered for the last
 OFFERED = {
-    "xpush ": {"serial", "match", "show", "make"},
+    "xpush ": {"serial", "match", "show", "explain", "verify", "make"},
     "xpush m": {"match", "make"},
     "xpush make ": {"--seed", "--filters", "--documents"},
     "xpush make --seed 1 --f": {"--filters"},
     "xpush make --seed=1 ": {"--filters", "--documents"},
     "xpush make --seed ": set(),
+    "xpush e": {"explain"},
     "xpush match /a ": set(),
 }
 ASK_BASH = r"""
@@ -121,7 +122,7 @@ def offered_by_zsh(typed, folder):
     places = (os.path.join(folder, "share/zsh/site-functions"), typed, os.path.join(folder, "zcompdump"))
     words = ["zsh", "-f", "-c", ASK_ZSH, "zsh", *places]
     done = subprocess.run(words, capture_output=True, text=True, timeout=60, env=dict(os.environ, TERM="dumb"))
-    return set(re.findall(r"^(serial|match|show|make|--[a-z]+)(?==|\s)", done.stdout.replace("\r", ""), re.M))
+    return set(re.findall(r"^(serial|match|show|explain|verify|make|--[a-z]+)(?==|\s)", done.stdout.replace("\r", ""), re.M))
 
 
 def check_completions(counts, folder):

@@ -14,7 +14,11 @@ use Rattle.px_feed.specs.Lines.{line_text}
 use Rattle.px_feed.specs.Matches.{AnswersDocument, AnswersMatch, OutMatch, OutShow, status_behind}
 use Rattle.px_feed.specs.Outputs.{AreLines, Out, text_of}
 use Rattle.px_xpath.specs.Filters.{Way}
-use Rattle.xpush.specs.Forms.{Form, Makes, Matches, Serves, Shows}
+use Rattle.px_document.specs.declared.finding.Finding.{Finding}
+use Rattle.px_document.specs.Findings as findings
+use Rattle.px_document.specs.Outputs as outputs
+use Rattle.px_document.specs.Outputs.{IsFound, OutExplain, OutVerify}
+use Rattle.xpush.specs.Forms.{Form, Explains, Makes, Matches, Serves, Shows, Verifies}
 
 abbrev pub is_truncated : FeedKind → Bool
 is_truncated (Doc Truncated) = true
@@ -57,6 +61,13 @@ pub record Shown (filter : List ℕ) (left after held held_after : Option (List 
   pub written : AddsTo held text held_after
   pub unread : after ≡ left
 
+-- A run of `explain` or of `verify` that was not cut short wrote what is found, and ended as that says.
+pub record Proved (finds : (bytes : List ℕ) → Finding → Type 0) (left after held held_after : Option (List ℕ)) (status : Status) : Type 0 where
+  pub finding : Finding
+  pub is_found : IsFound finds left after finding
+  pub written : AddsTo held (findings.text finding) held_after
+  pub ended : status ≡ findings.status finding
+
 -- A run of `make` that was not cut short read nothing, and wrote the feed.
 pub record Made (seed filters documents : ℕ) (left after held held_after : Option (List ℕ)) (status : Status) : Type 0 where
   pub written : AddsTo held (feed seed filters documents) held_after
@@ -74,6 +85,8 @@ pub record Served (left after held held_after : Option (List ℕ)) (status : Sta
 abbrev pub Answers : Form → (left after held held_after : Option (List ℕ)) → Status → Type 0
 Answers (Matches filter) = Matched filter
 Answers (Shows filter) = Shown filter
+Answers (Explains filter) = Proved (outputs.Explains filter)
+Answers (Verifies filter) = Proved (outputs.Verifies filter)
 Answers (Makes seed filters documents) = Made seed filters documents
 Answers Serves = Served
 
@@ -85,6 +98,8 @@ OutMake seed filters documents text status = (text ≡ feed seed filters documen
 abbrev pub OutOf : Form → (bytes text : List ℕ) → Status → Type 0
 OutOf (Matches filter) bytes = OutMatch filter bytes
 OutOf (Shows filter) bytes = OutShow filter
+OutOf (Explains filter) bytes = OutExplain filter bytes
+OutOf (Verifies filter) bytes = OutVerify filter bytes
 OutOf (Makes seed filters documents) bytes = OutMake seed filters documents
 OutOf Serves bytes = Out bytes
 

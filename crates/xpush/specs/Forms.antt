@@ -10,13 +10,19 @@ use Rattle.xpush.specs.declared.words.Command.TheVariants as command
 pub data Form : Type 0 where
   Matches : (filter : List ℕ) → Form
   Shows : (filter : List ℕ) → Form
+  Explains : (filter : List ℕ) → Form
+  Verifies : (filter : List ℕ) → Form
   Makes : (seed filters documents : ℕ) → Form
   Serves : Form
 
--- `match FILTER` and `show FILTER`
+-- `match FILTER`, `show FILTER`, `explain FILTER` and `verify FILTER`
 abbrev pub filter_form : List ℕ → List (List ℕ) → Option Form
 filter_form name (filter ∷ []) =
-    if bytes_eq name (codes "match") then Some (Matches filter) else if bytes_eq name (codes "show") then Some (Shows filter) else None
+    if bytes_eq name (codes "match") then Some (Matches filter)
+    else if bytes_eq name (codes "show") then Some (Shows filter)
+    else if bytes_eq name (codes "explain") then Some (Explains filter)
+    else if bytes_eq name (codes "verify") then Some (Verifies filter)
+    else None
 filter_form name _ = None
 
 -- the options of `make`, which all have to be given
@@ -57,6 +63,8 @@ have_options (name ∷ words) = bytes_eq name (codes "make")
 abbrev pub form : Command → Form
 form (command.Match filter) = Matches filter.now
 form (command.Show filter) = Shows filter.now
+form (command.Explain filter) = Explains filter.now
+form (command.Verify filter) = Verifies filter.now
 form (command.Make seed filters documents) = Makes seed filters documents
 form command.Serial = Serves
 

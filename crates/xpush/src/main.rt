@@ -13,6 +13,7 @@ mod matching;
 mod outgoing;
 mod output;
 pub mod plain;
+mod proving;
 pub mod run;
 mod running;
 mod serving;

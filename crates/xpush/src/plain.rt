@@ -8,6 +8,7 @@ ghost use Rattle.xpush.specs.Forms.{form, form_of, have_options};
 
 use crate::making::make_feed;
 use crate::matching::match_document;
+use crate::proving::{explain_document, verify_proof};
 use crate::serving::serve_feed;
 use crate::showing::show_filter;
 use crate::words::{Command, command_of};
@@ -68,6 +69,8 @@ fn run_command<S: Source, K: Sink>(
     match command {
         Command::Match { filter } => match_document(alloc, filter, source, sink),
         Command::Show { filter } => show_filter(alloc, filter, sink),
+        Command::Explain { filter } => explain_document(alloc, filter, source, sink),
+        Command::Verify { filter } => verify_proof(alloc, filter, source, sink),
         Command::Make {
             seed,
             filters,

@@ -5,8 +5,10 @@ mod waiting;
 
 use crate::plain::plain;
 use px_feed::Status;
-use px_io::{MemSink, MemSource, ReadAnswer, Sink, Source, StdSink, StdSource, WriteAnswer};
-use px_text::Bytes;
+use px_io::{
+    FailSource, MemSink, MemSource, ReadAnswer, Sink, Source, StdSink, StdSource, WriteAnswer,
+};
+use px_text::{Bytes, Words};
 use std::alloc::{AllocError, Global};
 use std::io;
 use std::io::{ErrorKind, Read, Write};
@@ -20,7 +22,7 @@ struct Row {
     status: Status,
 }
 
-const ROWS: [Row; 43] = [
+const ROWS: [Row; 53] = [
     Row {
         words: &["match", "/a/b"],
         source: b"(a\n(b\n)b\n)a\n",
@@ -268,6 +270,66 @@ const ROWS: [Row; 43] = [
         status: Status::Refused,
     },
     Row {
+        words: &["explain", "/a/b"],
+        source: b"(a\n(b\n)b\n)a\n",
+        text: b"yes\ny 1\ny 1\n",
+        status: Status::Done,
+    },
+    Row {
+        words: &["explain", "/a[not(b)]"],
+        source: b"(a\n(b\n)b\n)a\n",
+        text: b"no\nn 1\nc 1\n!\ny 1\n",
+        status: Status::Refused,
+    },
+    Row {
+        words: &["explain", "/a[not(b)]"],
+        source: b"(a\n)a\n",
+        text: b"yes\ny 1\n!\nn 0\n",
+        status: Status::Done,
+    },
+    Row {
+        words: &["explain", "/a["],
+        source: b"",
+        text: b"! filter not-a-filter 3\n",
+        status: Status::Refused,
+    },
+    Row {
+        words: &["explain", "/a"],
+        source: b"(a\n)b\n",
+        text: b"! line 2 not-here\n",
+        status: Status::Refused,
+    },
+    Row {
+        words: &["verify", "/a/b"],
+        source: b"y 1\ny 1\n=\n(a\n(b\n)b\n)a\n",
+        text: b"yes\n",
+        status: Status::Done,
+    },
+    Row {
+        words: &["verify", "/a/b"],
+        source: b"y 2\ny 1\n=\n(a\n(b\n)b\n)a\n",
+        text: b"! proof wrong 0\n",
+        status: Status::Refused,
+    },
+    Row {
+        words: &["verify", "/a/b"],
+        source: b"y 1\n=\n(a\n(b\n)b\n)a\n",
+        text: b"! proof wrong 1\n",
+        status: Status::Refused,
+    },
+    Row {
+        words: &["verify", "/a/b"],
+        source: b"q\ny 1\n=\n(a\n(b\n)b\n)a\n",
+        text: b"! proof line 1\n",
+        status: Status::Refused,
+    },
+    Row {
+        words: &["verify", "/a[not(b)]"],
+        source: b"n 1\nc 1\n!\ny 1\n=\n(a\n(b\n)b\n)a\n",
+        text: b"no\n",
+        status: Status::Refused,
+    },
+    Row {
         words: &["make", "--seed", "1", "--filters", "2", "--documents", "1"],
         source: b"",
         text: FEED,
@@ -286,12 +348,15 @@ const FEED: &[u8] =
     b"+//e6[not(e1)]\n+//e3[text()>7 or .//e2]\n(r\n(e3\nAk 2\n(e6\n-9\n)e6\n)e3\n(e7\nAk 4\n(e4\n-5\n)e4\n)e7\n(e7\nAk 9\n(e7\n-7\n)e7\n)e7\n(e6\nAk 6\n(e2\n-5\n)e2\n)e6\n)r\n";
 
 /// Lists of words that are in no form.
-const NO_FORMS: [&[&str]; 18] = [
+const NO_FORMS: [&[&str]; 21] = [
     &[],
     &["feeds"],
     &["match"],
     &["match", "/a", "/b"],
     &["show"],
+    &["explain"],
+    &["explain", "/a", "/b"],
+    &["verify"],
     &["--help"],
     &["serial", "x"],
     &["make"],
@@ -391,6 +456,44 @@ fn documents_at_their_limits(rt: HostRuntime) -> Result<(), Fail> {
         answer(alloc, "/a/text()", longer)?.held(),
         b"! line 2 line-long\n".as_slice()
     );
+    Ok(())
+}
+
+/// `//b[@k]` would need a line for the count, one for `a`, and two for each `b`.
+#[test]
+fn too_many_nodes_are_no_proof(rt: HostRuntime) -> Result<(), Fail> {
+    let alloc = rt.alloc();
+    let document = repeated(alloc, &[(b"(a\n", 1), (b"(b\n)b\n", 100_000), (b")a\n", 1)])?;
+    let words = strings(alloc, &["explain", "//b[@k]"])?;
+    let mut sink = MemSink::new(alloc);
+    let status = plain(
+        alloc,
+        words.as_slice(),
+        &mut MemSource::new(document),
+        &mut sink,
+    );
+    assert_eq!(rt; sink.held(), b"! proof too-many\n".as_slice());
+    assert_eq!(rt; status, Status::Refused);
+    Ok(())
+}
+
+/// A source whose call behind the first fails gives nothing to write, whatever the first gave.
+#[test]
+fn a_read_fault_leaves_nothing_explained(rt: HostRuntime) -> Result<(), Fail> {
+    let alloc = rt.alloc();
+    for (command, bytes) in [
+        ("explain", b"(a\n)a\n".as_slice()),
+        ("verify", b"y 1\n=\n(a\n)a\n"),
+        ("verify", b"y 1\n"),
+    ] {
+        let words = strings(alloc, &[command, "/a"])?;
+        let fails = Words::of(vec![in alloc; 2]?);
+        let mut source = FailSource::new(Bytes::of(alloc, bytes)?, 65_536, fails);
+        let mut sink = MemSink::new(alloc);
+        let status = plain(alloc, words.as_slice(), &mut source, &mut sink);
+        assert_eq!(rt; status, Status::ReadFault, "{command}");
+        assert_eq!(rt; sink.held(), b"".as_slice());
+    }
     Ok(())
 }
 

@@ -18,6 +18,14 @@ pub enum Command<'a> {
     Show {
         filter: &'a [u8],
     },
+    /// Why a document matches the filter, or why it does not.
+    Explain {
+        filter: &'a [u8],
+    },
+    /// What a proof shows of the filter and a document.
+    Verify {
+        filter: &'a [u8],
+    },
     /// The feed of a seed, with so many filters and documents.
     Make {
         seed: u32,
@@ -89,6 +97,10 @@ fn filter_command<'a>(name: &str, words: &'a [String]) -> Option<Command<'a>>
         Some(Command::Match { filter })
     } else if name == "show" {
         Some(Command::Show { filter })
+    } else if name == "explain" {
+        Some(Command::Explain { filter })
+    } else if name == "verify" {
+        Some(Command::Verify { filter })
     } else {
         None
     }

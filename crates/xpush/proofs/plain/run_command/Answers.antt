@@ -52,3 +52,43 @@ returns-in-Match-clause-whole_items g c = λ e.
     WritesWhole (form command) (g.S.Source.left c.args.source.now) (g.S.Source.left c.match_document.new.source) (g.K.Sink.held c.args.sink.now)
     (g.K.Sink.held c.match_document.new.sink) in
     subst P (sym c.in-Match.is) (c.match_document.ensures.unwritten e)
+
+pub returns-in-Explain-clause-output : goal.returns-in-Explain-clause-output
+returns-in-Explain-clause-output g c = λ t.
+    let P : Command → Type 0 = λ command.
+    Answers (form command) (g.S.Source.left c.args.source.now) (g.S.Source.left c.explain_document.new.source) (g.K.Sink.held c.args.sink.now)
+    (g.K.Sink.held c.explain_document.new.sink) c.explain_document.result in
+    subst P (sym c.in-Explain.is) (c.explain_document.ensures.output t)
+
+pub returns-in-Explain-clause-front : goal.returns-in-Explain-clause-front
+returns-in-Explain-clause-front g c = λ t.
+    let P : Command → Type 0 = λ command.
+    WritesFront (form command) (g.S.Source.left c.args.source.now) (g.K.Sink.held c.args.sink.now) (g.K.Sink.held c.explain_document.new.sink) in
+    subst P (sym c.in-Explain.is) (c.explain_document.ensures.front t)
+
+pub returns-in-Explain-clause-whole_items : goal.returns-in-Explain-clause-whole_items
+returns-in-Explain-clause-whole_items g c = λ e.
+    let P : Command → Type 0 = λ command.
+    WritesWhole (form command) (g.S.Source.left c.args.source.now) (g.S.Source.left c.explain_document.new.source) (g.K.Sink.held c.args.sink.now)
+    (g.K.Sink.held c.explain_document.new.sink) in
+    subst P (sym c.in-Explain.is) (c.explain_document.ensures.unwritten e)
+
+pub returns-in-Verify-clause-output : goal.returns-in-Verify-clause-output
+returns-in-Verify-clause-output g c = λ t.
+    let P : Command → Type 0 = λ command.
+    Answers (form command) (g.S.Source.left c.args.source.now) (g.S.Source.left c.verify_proof.new.source) (g.K.Sink.held c.args.sink.now)
+    (g.K.Sink.held c.verify_proof.new.sink) c.verify_proof.result in
+    subst P (sym c.in-Verify.is) (c.verify_proof.ensures.output t)
+
+pub returns-in-Verify-clause-front : goal.returns-in-Verify-clause-front
+returns-in-Verify-clause-front g c = λ t.
+    let P : Command → Type 0 = λ command.
+    WritesFront (form command) (g.S.Source.left c.args.source.now) (g.K.Sink.held c.args.sink.now) (g.K.Sink.held c.verify_proof.new.sink) in
+    subst P (sym c.in-Verify.is) (c.verify_proof.ensures.front t)
+
+pub returns-in-Verify-clause-whole_items : goal.returns-in-Verify-clause-whole_items
+returns-in-Verify-clause-whole_items g c = λ e.
+    let P : Command → Type 0 = λ command.
+    WritesWhole (form command) (g.S.Source.left c.args.source.now) (g.S.Source.left c.verify_proof.new.source) (g.K.Sink.held c.args.sink.now)
+    (g.K.Sink.held c.verify_proof.new.sink) in
+    subst P (sym c.in-Verify.is) (c.verify_proof.ensures.unwritten e)
