@@ -21,13 +21,18 @@ import tempfile
 TOP = pathlib.Path(__file__).resolve().parent.parent
 FEED = b"+/a\n+/a\n(a\n)a\n~1\n(a\n)a\n~1\n"
 OUTPUT = b"+1\n+2\n2: 1 2\n~1 3\n3: 2\n! drop unknown\n"
+ALERTS = (TOP / "examples/alerts.feed").read_bytes()
 MAKE = ["make", "--seed", "1", "--filters=2", "--documents", "2"]
+# the first document of the alerts
+ORDER = b"".join(ALERTS.splitlines(keepends=True)[3:11])
 # for each name the words, the bytes that are read, the status of a whole run, and its text where that is known beforehand
 RUNS = {
     "serial": (["serial"], FEED, 1, OUTPUT),
-    "alerts": (["serial"], (TOP / "examples/alerts.feed").read_bytes(), 0, None),
+    "alerts": (["serial"], ALERTS, 0, None),
     "match": (["match", "/order[@id>10]/item"], (TOP / "examples/order.pyx").read_bytes(), 0, b"yes\n"),
     "show": (["show", "/a[ (b) and(c or d) ]"], b"", 0, b"/a[b and (c or d)]\n"),
+    "explain": (["explain", "/order[@total>1000]"], ORDER, 0, b"yes\ny 1\ny 2\n"),
+    "verify": (["verify", "/order[@total>1000]"], b"y 1\ny 2\n=\n" + ORDER, 0, b"yes\n"),
     "make": (MAKE, b"", 0, None),
     "usage": (MAKE + ["--help"], b"", 2, b""),
 }
