@@ -1,0 +1,13 @@
+pub mod Settles
+pub mod Gains
+pub mod Keeping
+pub mod Adding
+pub mod Beside
+pub mod Renewing
+pub mod Standing
+pub mod Trying
+pub mod Homes
+pub mod Machines
+pub mod Meeting
+pub mod Beginning
+pub mod Gathered

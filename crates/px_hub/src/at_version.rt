@@ -1,0 +1,12 @@
+//! The machine of one version.
+use px_prune::Compiled;
+use px_workload::Live;
+use std::sync::Arc;
+
+/// The filters that are live at a version, and their program. Whoever has that version shares it.
+#[derive(Drop)]
+pub(crate) struct AtVersion {
+    pub(crate) version: u32,
+    pub(crate) live: Arc<Live>,
+    pub(crate) compiled: Arc<Compiled>,
+}

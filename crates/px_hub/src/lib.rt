@@ -1,0 +1,75 @@
+//! One workload for many callers: one history of changes, passes that have seen beginnings of it,
+//! and the banks in which the machines of its versions are kept.
+//!
+//! Callers subscribe, drop and replace filters through a [`Hub`], each with a [`Pass`] of its own.
+//! Whatever the order of their steps, accepted changes form one history, each caller's once and in
+//! its order, and a pass knows a beginning of it.
+//!
+//! ```text
+//!   a caller, with its Pass                     behind the lock: the desk
+//!   +-----------------------------+             +--------------------------------+
+//!   | what it has seen            |  changes    | all changes, as a journal      |
+//!   | the filters live behind it  | ----------> | the version of each bank       |
+//!   | a program, its bank or none | <---------- | the newest program, built once |
+//!   +-----------------------------+  refreshes  +--------------------------------+
+//!        |          ^
+//!   Hub::note   Hub::meet         a Note is what a pass has seen, for another pass: no lock
+//! ```
+//!
+//! **A change** ([`Hub::subscribe`], [`Hub::unsubscribe`], [`Hub::replace`]) waits for the lock. The
+//! desk takes in a note of the pass with the permit for that change, and accepts it, which is one
+//! addition to the version word; a note of the desk then tells the pass of all changes before it.
+//! So the pass has then seen what it had, changes of others, and its own as the last. A refused
+//! change is told against what the pass has then seen, and where memory is refused nothing has
+//! changed.
+//!
+//! **A refresh** ([`Hub::refresh`], [`Hub::refresh_all`]) gives a pass the newest version, its
+//! program, and a bank: the first that stands at that version, or else the one at the lowest version
+//! that no call is inside, cleared and made to stand. Where calls are inside all banks, the pass
+//! keeps the word that each claim found. Passes at one version share one program.
+//!
+//! **A note** ([`Hub::note`], [`Hub::meet`]) copies no history: what was seen stands in proofs
+//! alone, and the live filters are shared. It takes no lock.
+//!
+//! **Where it is said.** `specs/Calls.antt` has a relation for each call, between the pass before
+//! and after it; `specs/Passes.antt` what holds of every pass, note and desk. [`Pass::version`] tells
+//! that each entry that a pass has seen names a pass of the hub, and that those that name it are
+//! the changes that it asked for.
+//!
+//! **Which hub.** A pass is of the hub that its type parameter names ([`HubName`]): the caller makes
+//! [`Parts`], hands them to a function of its own that is generic in a name, with std's `Brand` for
+//! it, and that calls [`Hub::create`].
+//!
+//! Not said: which of two changes at the same time is first, that a claim succeeds, or anything of
+//! waiting. To come: that the types may cross threads (`Send`, `Sync`), which no proof shows yet, and
+//! the calls that filter a document.
+#![tactic(auto)]
+
+mod at_version;
+mod banks;
+mod changes;
+mod config;
+mod desk;
+mod exchange;
+mod faults;
+mod home;
+mod hub;
+mod law;
+mod machine;
+mod name;
+mod note;
+mod parts;
+mod pass;
+#[cfg(test)]
+mod tests;
+mod together;
+
+pub use config::Config;
+pub use faults::{ReplaceFault, SubscribeFault, UnsubscribeFault};
+pub use home::Home;
+pub use hub::Hub;
+pub use law::Workload;
+pub use name::HubName;
+pub use note::Note;
+pub use parts::Parts;
+pub use pass::Pass;
