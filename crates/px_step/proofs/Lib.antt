@@ -8,3 +8,4 @@ pub mod Popped
 pub mod Accepted
 pub mod ClassRanges
 pub mod TrueValues
+pub mod Marked

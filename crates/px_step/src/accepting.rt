@@ -4,7 +4,7 @@ ghost use Rattle.std.specs.Prelude.{◌≡◌, ℕ, IfOk};
 ghost use Rattle.px_text.specs.Sets.{has};
 ghost use Rattle.px_afa.specs.Sets.{accept as accepted};
 
-use crate::sorting::ascending;
+use crate::sorting::ascending_marked;
 use px_afa::Program;
 use px_text::{Ids, Set};
 use std::alloc::{AllocError, Global};
@@ -16,7 +16,7 @@ pub fn accept(alloc: Global, program: &Program, set: &Set) -> Result<Ids, AllocE
 {
     program.sound();
     let ids = ids_of(alloc, program, set)?;
-    Ok(Ids::of(ascending(ids)))
+    Ok(Ids::of(ascending_marked(alloc, ids)?))
 }
 
 // The ids of the filters whose first state is in the set, by their states.

@@ -7,6 +7,6 @@ pub returns : goal.returns
 returns c = record {
   ids =
       c.of.ensures.same
-      ∙ rising_equal c.ascending.result.items _ c.ascending.ensures.rises (accept-rises c.args.program.now.firsts c.args.set.now c.sound.ensures.sound.ids_rise)
-      (λ n. c.ascending.ensures.same n ∙ c.in_ok-ids.ensures.members n);
+      ∙ rising_equal c.in_ok-ascending_marked.field-0.items _ c.in_ok-ascending_marked.ensures.rises (accept-rises c.args.program.now.firsts c.args.set.now c.sound.ensures.sound.ids_rise)
+      (λ n. c.in_ok-ascending_marked.ensures.same n ∙ c.in_ok-ids.ensures.members n);
 }
