@@ -4,3 +4,4 @@ pub mod Growing
 pub mod Legal
 pub mod Listing
 pub mod Standing
+pub mod Refusing

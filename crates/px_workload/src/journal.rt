@@ -1,22 +1,30 @@
 //! The changes that were accepted, one after another.
 
-ghost use Rattle.std.specs.Prelude.{◌≡◌, ◌<◌, ◌≤◌, ◌+◌, ◌++◌, ◌∷◌, [], ℕ, length, option_map, IfOk, IfSome, IsSome, IsTrue, ◌↔◌, OnOk};
+ghost use Rattle.std.specs.Prelude.{◌≡◌, ◌<◌, ◌≤◌, ◌+◌, ◌++◌, ◌∷◌, [], ℕ, length, option_map, None, IfOk, IfSome, IsSome, IsTrue, ◌↔◌, OnOk};
 ghost use Rattle.std.specs.List.{find};
 ghost use Rattle.px_xpath.specs.Histories as histories;
 ghost use Rattle.px_xpath.specs.Whole as whole;
 ghost use Rattle.px_xpath.specs.declared.filter.Filter.{Filter};
 ghost use Rattle.px_xpath.specs.Subscribed.{subscriptions};
 ghost use Rattle.px_workload.specs.Changes as changes;
+ghost use Rattle.px_workload.specs.Refusals.{refusal, refuses_all, refuses_beside, refuses_drop, refuses_replacement};
 ghost use Rattle.px_workload.specs.Slots.{named};
 
 use crate::change::Change;
 use crate::live::Live;
 use crate::past::Past;
+use crate::refusal::Refusal;
 use crate::snapshot::{shares, shares_after};
 use crate::table::Table;
 use px_xpath::{Filter, size};
 use std::alloc::{AllocError, Global};
 use std::marker::Model;
+
+// What the live filters may measure together.
+const MOST_SIZE: u64 = 500_000;
+
+// The most changes of one history.
+const MOST_CHANGES: u32 = 1_048_575;
 
 /// The history of a workload. Contracts see the changes that were accepted, which are a legal
 /// history, and how many more fit in the memory that was taken. What it keeps is the filters that
@@ -73,6 +81,65 @@ impl Journal {
         self.past = Past::with(&self.past, &change);
         self.table.take(change);
         self.version()
+    }
+
+    /// Why a change may not come next, or none where it may. It takes no memory.
+    pub fn refusal(&self, change: &Change) -> Option<Refusal>
+        ensures refusal { result ≡ refusal (changes.history self.now.changes) (changes.change change.now) }
+        ensures legal { result ≡ None → histories.IsLegal (changes.history (self.now.changes ++ change.now ∷ [])) }
+    {
+        // The history is legal.
+        let _version = self.version();
+        match change {
+            Change::Add { filter, .. } => self.refuses_beside(self.live_size(), filter),
+            Change::Drop { id, .. } => self.refuses_drop(*id),
+            Change::Replace { id, filter, .. } => self.refuses_replacement(*id, filter),
+        }
+    }
+
+    // Why an id may not be dropped.
+    fn refuses_drop(&self, id: u32) -> Option<Refusal>
+        ensures refusal { result ≡ refuses_drop (changes.history self.now.changes) (find (histories.is_of id) (histories.live (changes.history self.now.changes))) }
+    {
+        if !self.is_live(id) {
+            return Some(Refusal::Unknown);
+        }
+        self.refuses_all()
+    }
+
+    // Why a filter may not take the place of that of an id.
+    fn refuses_replacement(&self, id: u32, filter: &Filter) -> Option<Refusal>
+        ensures refusal { result ≡ refuses_replacement (changes.history self.now.changes)
+            (find (histories.is_of id) (histories.live (changes.history self.now.changes))) (whole.filter filter.now) }
+        ensures live { result ≡ None → histories.IsLive id (histories.live (changes.history self.now.changes)) }
+        ensures fits { result ≡ None → (histories.live_size (histories.after 0 (histories.live (changes.history self.now.changes)) (histories.Replaces 0 id (whole.filter filter.now))) ≤ 500_000)
+            × (length (changes.history self.now.changes) < 1_048_575) }
+    {
+        if !self.is_live(id) {
+            return Some(Refusal::Unknown);
+        }
+        let others = self.live_size().saturating_sub(self.size_of(id));
+        self.refuses_beside(others, filter)
+    }
+
+    // Why a filter may not come beside others of this size.
+    fn refuses_beside(&self, others: u32, filter: &Filter) -> Option<Refusal>
+        ensures refusal { result ≡ refuses_beside (changes.history self.now.changes) others (whole.filter filter.now) }
+    {
+        if u64::from(others) + u64::from(size(filter)) > MOST_SIZE {
+            return Some(Refusal::TooLarge { live: others });
+        }
+        self.refuses_all()
+    }
+
+    // Why no change may come.
+    fn refuses_all(&self) -> Option<Refusal>
+        ensures refusal { result ≡ refuses_all (changes.history self.now.changes) }
+    {
+        if self.version() >= MOST_CHANGES {
+            return Some(Refusal::NoVersions);
+        }
+        None
     }
 
     /// How many changes were accepted.

@@ -22,6 +22,7 @@ mod laws;
 mod live;
 mod past;
 mod places;
+mod refusal;
 mod snapshot;
 mod table;
 
@@ -29,3 +30,4 @@ pub use change::Change;
 pub use journal::Journal;
 pub use laws::live_filters_are_in_order;
 pub use live::Live;
+pub use refusal::Refusal;

@@ -1,10 +1,12 @@
 -- What one item of a feed is answered.
 use Rattle.std.specs.Prelude.{◌≡◌, List}
 use Rattle.px_feed.specs.declared.line.OutLine.{OutLine}
-use Rattle.px_feed.specs.declared.line.OutLine.TheVariants.{NoFilter}
+use Rattle.px_feed.specs.declared.line.OutLine.TheVariants.{NoFilter, AddTooLarge, AddNoVersions, DropUnknown, DropNoVersions, ReplaceUnknown, ReplaceTooLarge, ReplaceNoVersions}
 use Rattle.px_feed.specs.Items.{Item}
 use Rattle.px_feed.specs.Outputs.{Ask, Asks, reply}
 use Rattle.px_workload.specs.declared.change.Change.{Change}
+use Rattle.px_workload.specs.declared.refusal.Refusal.{Refusal}
+use Rattle.px_workload.specs.declared.refusal.Refusal.TheVariants.{Unknown, TooLarge, NoVersions}
 use Rattle.px_workload.specs.Changes.{history}
 use Rattle.px_xpath.specs.declared.fault.ParseFault.{ParseFault}
 use Rattle.px_xpath.specs.declared.fault.ParseFault.TheVariants.{Filter, Memory}
@@ -21,3 +23,21 @@ Answered item before after line = (ask : Ask) × Asks item ask × Replies ask be
 abbrev pub IsLineOf : ParseFault → OutLine → Type 0
 IsLineOf (Filter fault) line = line ≡ NoFilter fault
 IsLineOf Memory line = ⊥
+
+-- the line for an add that is refused; it names no id
+abbrev pub IsAddRefused : Refusal → OutLine → Type 0
+IsAddRefused Unknown line = ⊥
+IsAddRefused (TooLarge live) line = line ≡ AddTooLarge live
+IsAddRefused NoVersions line = line ≡ AddNoVersions
+
+-- the line for a drop that is refused; it has no filter
+abbrev pub IsDropRefused : Refusal → OutLine → Type 0
+IsDropRefused Unknown line = line ≡ DropUnknown
+IsDropRefused (TooLarge live) line = ⊥
+IsDropRefused NoVersions line = line ≡ DropNoVersions
+
+-- the line for a replacement that is refused
+abbrev pub IsReplaceRefused : Refusal → OutLine → Type 0
+IsReplaceRefused Unknown line = line ≡ ReplaceUnknown
+IsReplaceRefused (TooLarge live) line = line ≡ ReplaceTooLarge live
+IsReplaceRefused NoVersions line = line ≡ ReplaceNoVersions

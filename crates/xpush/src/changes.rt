@@ -1,24 +1,19 @@
 //! What the changes of a feed are answered.
 
-ghost use Rattle.std.specs.Prelude.{◌≡◌, ◌+◌, ◌<◌, length, IfOk, IsFalse};
+ghost use Rattle.std.specs.Prelude.{◌≡◌, ◌++◌, ◌∷◌, [], ℕ, IfOk};
 ghost use Rattle.px_feed.specs.Items.{Adding, Removing, Replacing};
 ghost use Rattle.px_feed.specs.Outputs.{AsksAdd, AsksDrop, AsksReplace};
-ghost use Rattle.px_feed.specs.Outputs as outputs;
-ghost use Rattle.px_xpath.specs.Histories as histories;
+ghost use Rattle.px_feed.specs.Outputs.{next_version};
+ghost use Rattle.px_xpath.specs.Histories.{IsLegal};
 ghost use Rattle.px_xpath.specs.Whole.{filter as way_of};
-ghost use Rattle.px_workload.specs.Changes as workload;
-ghost use Rattle.xpush.specs.Replying.{Answered, Replies, IsLineOf};
+ghost use Rattle.px_workload.specs.Changes.{change as as_change, history};
+ghost use Rattle.px_workload.specs.declared.refusal.Refusal.TheVariants.{Unknown, TooLarge};
+ghost use Rattle.xpush.specs.Replying.{Answered, Replies, IsLineOf, IsAddRefused, IsDropRefused, IsReplaceRefused};
 
 use px_feed::{OutLine, id_of};
-use px_workload::{Change, Journal};
-use px_xpath::{Filter, ParseFault, parse, size};
+use px_workload::{Change, Journal, Refusal};
+use px_xpath::{Filter, ParseFault, parse};
 use std::alloc::{AllocError, Global};
-
-/// What the live filters may measure together.
-const MOST_SIZE: u64 = 500_000;
-
-/// The most changes of one history.
-const MOST_CHANGES: u32 = 1_048_575;
 
 /// Adds the filter that a text writes, and answers the line for it. An add that is refused leaves
 /// the journal as it was.
@@ -72,31 +67,28 @@ fn no_filter(fault: ParseFault) -> Result<OutLine, AllocError>
 fn add_filter(journal: &mut Journal, filter: Filter) -> Result<OutLine, AllocError>
     ensures { IfOk result (λ line. Replies (AsksAdd (Ok (way_of filter))) journal.old.changes journal.new.changes line) }
 {
-    let live = journal.live_size();
-    if is_too_large(live, &filter) {
-        return Ok(OutLine::AddTooLarge { live });
+    let change = Change::Add { who: 0, filter };
+    match journal.refusal(&change) {
+        Some(refusal) => Ok(refused_add(refusal)),
+        None => {
+            let id = accept(journal, change)?;
+            Ok(OutLine::Added { id })
+        }
     }
-    if is_full(journal) {
-        return Ok(OutLine::AddNoVersions);
-    }
-    journal.reserve()?;
-    let id = journal.append(Change::Add { who: 0, filter });
-    Ok(OutLine::Added { id })
 }
 
 /// Drops the filter of an id, unless none is live under it or no version is left.
 fn remove_named(journal: &mut Journal, id: u32) -> Result<OutLine, AllocError>
     ensures { IfOk result (λ line. Replies (AsksDrop (Some id)) journal.old.changes journal.new.changes line) }
 {
-    if !journal.is_live(id) {
-        return Ok(OutLine::DropUnknown);
+    let change = Change::Drop { who: 0, id };
+    match journal.refusal(&change) {
+        Some(refusal) => Ok(refused_drop(refusal)),
+        None => {
+            let version = accept(journal, change)?;
+            Ok(OutLine::Dropped { id, version })
+        }
     }
-    if is_full(journal) {
-        return Ok(OutLine::DropNoVersions);
-    }
-    journal.reserve()?;
-    let version = journal.append(Change::Drop { who: 0, id });
-    Ok(OutLine::Dropped { id, version })
 }
 
 /// Replaces the filter of an id, if there is one.
@@ -114,33 +106,57 @@ fn replace_by(journal: &mut Journal, id: Option<u32>, filter: Filter) -> Result<
 fn replace_named(journal: &mut Journal, id: u32, filter: Filter) -> Result<OutLine, AllocError>
     ensures { IfOk result (λ line. Replies (AsksReplace (Some id) (Ok (way_of filter))) journal.old.changes journal.new.changes line) }
 {
-    if !journal.is_live(id) {
-        return Ok(OutLine::ReplaceUnknown);
+    let change = Change::Replace { who: 0, id, filter };
+    match journal.refusal(&change) {
+        Some(refusal) => Ok(refused_replacement(refusal)),
+        None => {
+            let version = accept(journal, change)?;
+            Ok(OutLine::Replaced { id, version })
+        }
     }
-    let others = journal.live_size().saturating_sub(journal.size_of(id));
-    if is_too_large(others, &filter) {
-        return Ok(OutLine::ReplaceTooLarge { live: others });
-    }
-    if is_full(journal) {
-        return Ok(OutLine::ReplaceNoVersions);
-    }
+}
+
+/// Accepts a change that may come, and answers the version that it makes.
+fn accept(journal: &mut Journal, change: Change) -> Result<u32, AllocError>
+    requires legal { IsLegal (history (journal.old.changes ++ change ∷ [])) }
+    ensures version { IfOk result (λ version. version ≡ next_version (history journal.old.changes)) }
+    ensures history { IfOk result (λ _. history journal.new.changes ≡ history journal.old.changes ++ as_change change ∷ []) }
+{
     journal.reserve()?;
-    let version = journal.append(Change::Replace { who: 0, id, filter });
-    Ok(OutLine::Replaced { id, version })
+    Ok(journal.append(change))
 }
 
-/// Whether a filter is too large beside others of this size.
-fn is_too_large(others: u32, filter: &Filter) -> bool
-    ensures { result ≡ outputs.is_too_large (others + histories.size (way_of filter.now)) }
+/// The line for an add that is refused.
+fn refused_add(refusal: Refusal) -> OutLine
+    requires no_id { refusal ≡ Unknown → ⊥ }
+    ensures line { IsAddRefused refusal result }
 {
-    u64::from(others) + u64::from(size(filter)) > MOST_SIZE
+    match refusal {
+        Refusal::Unknown => unreachable!(),
+        Refusal::TooLarge { live } => OutLine::AddTooLarge { live },
+        Refusal::NoVersions => OutLine::AddNoVersions,
+    }
 }
 
-/// Whether no version is left.
-fn is_full(journal: &Journal) -> bool
-    ensures full { result ≡ outputs.is_full (workload.history journal.now.changes) }
-    ensures room { IsFalse result → length journal.now.changes < 1_048_575 }
-    ensures legal { histories.IsLegal (workload.history journal.now.changes) }
+/// The line for a drop that is refused.
+fn refused_drop(refusal: Refusal) -> OutLine
+    requires no_filter { (live : ℕ) → refusal ≡ TooLarge live → ⊥ }
+    ensures line { IsDropRefused refusal result }
 {
-    journal.version() >= MOST_CHANGES
+    match refusal {
+        Refusal::Unknown => OutLine::DropUnknown,
+        Refusal::TooLarge { .. } => unreachable!(),
+        Refusal::NoVersions => OutLine::DropNoVersions,
+    }
+}
+
+/// The line for a replacement that is refused.
+fn refused_replacement(refusal: Refusal) -> OutLine
+    ensures line { IsReplaceRefused refusal result }
+{
+    match refusal {
+        Refusal::Unknown => OutLine::ReplaceUnknown,
+        Refusal::TooLarge { live } => OutLine::ReplaceTooLarge { live },
+        Refusal::NoVersions => OutLine::ReplaceNoVersions,
+    }
 }

@@ -1,36 +1,36 @@
 use crate::change::Change;
 use crate::journal::Journal;
 use crate::live::Live;
-use px_xpath::{ParseFault, parse, size};
+use px_xpath::{ParseFault, parse};
 use std::alloc::{AllocError, Global};
 use std::test::Fail;
 
 /// Accepts a filter, where the limits allow it.
 fn add(alloc: Global, journal: &mut Journal, text: &[u8]) -> Result<Option<u32>, ParseFault> {
     let filter = parse(alloc, text)?;
-    journal.reserve()?;
-    let grown = journal.live_size().saturating_add(size(&filter));
-    if grown > 500_000 || journal.version() >= 1_048_575 {
-        return Ok(None);
-    }
-    Ok(Some(journal.append(Change::Add { who: 0, filter })))
+    Ok(accept(journal, Change::Add { who: 0, filter })?)
 }
 
 /// Drops a filter, where it is live.
 fn drop_out(journal: &mut Journal, id: u32) -> Result<Option<u32>, AllocError> {
-    journal.reserve()?;
-    if !journal.is_live(id) || journal.version() >= 1_048_575 {
+    accept(journal, Change::Drop { who: 0, id })
+}
+
+/// Accepts a change, where it may come.
+fn accept(journal: &mut Journal, change: Change) -> Result<Option<u32>, AllocError> {
+    if journal.refusal(&change).is_some() {
         return Ok(None);
     }
-    Ok(Some(journal.append(Change::Drop { who: 0, id })))
+    journal.reserve()?;
+    Ok(Some(journal.append(change)))
 }
 
 /// What would be live behind a drop, where its id is live.
 fn behind_drop(alloc: Global, journal: &Journal, id: u32) -> Result<Option<Live>, AllocError> {
-    if !journal.is_live(id) || journal.version() >= 1_048_575 {
+    let change = Change::Drop { who: 0, id };
+    if journal.refusal(&change).is_some() {
         return Ok(None);
     }
-    let change = Change::Drop { who: 0, id };
     Ok(Some(journal.snapshot_after(alloc, &change)?))
 }
 

@@ -1,8 +1,21 @@
-use Rattle.std.proofs.Common.{sym, ◌∙◌}
+use Rattle.std.proofs.Common.{List, ap, refl, sym, ◌∙◌}
+use Rattle.px_feed.specs.declared.line.OutLine.TheVariants.{Added}
+use Rattle.px_workload.specs.Changes.{history}
+use Rattle.px_xpath.specs.Histories as histories
+use Rattle.px_xpath.specs.Whole.{filter as way_of}
 use Rattle.xpush.proofs.changes.add_filter.Goals as goal
-use Rattle.xpush.proofs.Changing.{may_add}
+use Rattle.xpush.proofs.Changing.{add_known, add_refused, added}
 
-pub append-id-requires-clause-legal : goal.append-id-requires-clause-legal
-append-id-requires-clause-legal c =
-    may_add c.args.journal.now.changes c.reserve.new.self.changes c.args.filter c.live_size-live.result c.reserve.ensures.same c.is_full.ensures.legal c.live_size-live.ensures
-    (sym c.is_too_large.ensures ∙ c.if-is_too_large.false) (c.is_full.ensures.room c.if-is_full.false)
+pub refused_add-requires : goal.refused_add-requires
+refused_add-requires c = record { no_id = add_known (history c.args.journal.now.changes) (way_of c.args.filter) c.in-Some.refusal c.in-Some.ensures.refusal }
+
+pub returns-in-Some : goal.returns-in-Some
+returns-in-Some c = add_refused (history c.args.journal.now.changes) (way_of c.args.filter) c.in-Some.refusal c.refused_add.result c.in-Some.ensures.refusal c.refused_add.ensures.line
+
+pub accept-id-requires : goal.accept-id-requires
+accept-id-requires c = record { legal = c.in-None.ensures.legal refl }
+
+pub returns : goal.returns
+returns c =
+    added (history c.args.journal.now.changes) (way_of c.args.filter) c.in_ok-id.id (sym c.in-None.ensures.refusal) c.in_ok-id.ensures.version
+    ∙ ap (λ (h : List histories.Change). (Added c.in_ok-id.id, h)) (sym c.in_ok-id.ensures.history)
