@@ -1,12 +1,14 @@
 #!/usr/bin/env python3
-"""Prints how long px_trial takes for changes and to build a program, and to call each function on sets of states.
+"""Prints how long px_trial takes for changes and to build a program, to call each function on sets of states, and to filter a document that matches nothing.
 
     bench/steps.py [--binary FILE] [--runs N] [--filters N ..]
 
 A row for each number of generated filters: the nanoseconds of one add (with a list of the live
 filters after each, which takes it), of one snapshot, of one build or of one call (the mean of its
 calls; the best of several runs), how many filters, states or members its answer has, and by what
-factor the filters, the time and the answer grew since the row before.
+factor the filters, the time and the answer grew since the row before. The last lines say what a
+document that no filter matches costs under the most filters beside the fewest: about the same, since
+a machine that has taken it once looks up what it remembers.
 """
 import argparse
 import pathlib
@@ -15,6 +17,9 @@ import subprocess
 import sys
 
 LINE = re.compile(r"(\w+) (\d+) (\d+) (\d+)")
+
+# the rows of a document that no filter matches
+QUIET = ("quiet_by_runner", "quiet_by_machine")
 
 
 def run(binary, filters):
@@ -56,6 +61,9 @@ def main():
     rows = [(filters, best_of([run(options.binary, filters) for _ in range(options.runs)])) for filters in options.filters]
     for name in rows[0][1]:
         print_rows(name, [(filters, timed[name]) for filters, timed in rows])
+    fewest, most = min(rows), max(rows)
+    for name in QUIET:
+        print("%s: %.2f times the nanoseconds from %d to %d filters" % (name, most[1][name][0] / fewest[1][name][0], fewest[0], most[0]))
     return 0
 
 

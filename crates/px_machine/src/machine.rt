@@ -17,7 +17,7 @@ ghost use Rattle.px_machine.specs.Machines.{IsAt, HasRun, program_of, bytes_of, 
 
 use crate::facts::Facts;
 use crate::frame::Frame;
-use px_prune::Compiled;
+use px_afa::Program;
 use px_reader::Happening;
 use px_text::Ids;
 use std::alloc::{AllocError, Global};
@@ -50,24 +50,20 @@ impl Machine {
     /// A machine before the first event of a document, which remembers at most 134,217,728 bytes
     /// from one document to the next. It takes memory for a few open elements and a short text, and
     /// fails only where that is refused.
-    pub fn new(alloc: Global, compiled: Arc<Compiled>) -> Result<Machine, AllocError>
-        ensures new { IfOk result (λ machine. HasRun machine (arc_value compiled) []) }
+    pub fn new(alloc: Global, program: Arc<Program>) -> Result<Machine, AllocError>
+        ensures new { IfOk result (λ machine. HasRun machine (arc_value program) []) }
         ensures bound { IfOk result (λ machine. bound_of machine ≡ 134_217_728) }
     {
-        Machine::bounded(alloc, compiled, MOST_BYTES)
+        Machine::bounded(alloc, program, MOST_BYTES)
     }
 
     /// The same with another bound. With one of 0 it forgets all behind each document.
-    pub fn bounded(
-        alloc: Global,
-        compiled: Arc<Compiled>,
-        bound: u64,
-    ) -> Result<Machine, AllocError>
-        ensures new { IfOk result (λ machine. HasRun machine (arc_value compiled) []) }
+    pub fn bounded(alloc: Global, program: Arc<Program>, bound: u64) -> Result<Machine, AllocError>
+        ensures new { IfOk result (λ machine. HasRun machine (arc_value program) []) }
         ensures bound { IfOk result (λ machine. bound_of machine ≡ bound) }
     {
         Ok(Machine {
-            facts: Facts::new(alloc, compiled),
+            facts: Facts::new(alloc, program),
             bound,
             innermost: ground_frame(),
             outer: Vec::with_capacity(alloc, FIRST_ROOM)?,

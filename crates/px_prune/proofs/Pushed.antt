@@ -1,5 +1,5 @@
 -- A push, state by state.
-use Rattle.std.proofs.Common.{◌≡◌, ℕ, ◌+◌, ◌<◌, ◌≤◌, Bool, true, false, ◌||◌, ◌&&◌, List, [], ◌∷◌, ◌++◌, length, take, get_or, refl, sym, ◌∙◌, ap, arith, nat_eq, Option, Some, None}
+use Rattle.std.proofs.Common.{◌≡◌, ℕ, ◌+◌, ◌<◌, ◌≤◌, Bool, true, false, ◌||◌, ◌&&◌, List, [], ◌∷◌, ◌++◌, length, take, get_or, refl, sym, ◌∙◌, ap, subst, arith, nat_eq, Option, Some, None}
 use Rattle.std.specs.Prelude.{slice_get}
 use Rattle.std.specs.List.{list_any}
 use Rattle.std.proofs.lemmas.Bool.{eqb-true, and_parts}
@@ -12,7 +12,8 @@ use Rattle.px_afa.specs.declared.state.State.{State}
 use Rattle.px_afa.specs.declared.state.State.TheVariants as state
 use Rattle.px_afa.specs.Truth.{state_at, is_below}
 use Rattle.px_afa.specs.Sets.{needs, body_needs, pushed_state, pushed}
-use Rattle.px_afa.specs.Sound.{AreRising}
+use Rattle.px_afa.specs.Building.{Automata}
+use Rattle.px_afa.specs.Sound.{AreRising, IsSound}
 use Rattle.px_afa.specs.Labels.{names_of, is_element_label, label_meets, label_at}
 use Rattle.px_afa.specs.Tables.{is_met}
 use Rattle.px_afa.specs.Functions.{push}
@@ -140,6 +141,10 @@ push-has states label need items given i k same all so_far =
     ∙ (any_equal (λ p. is_met_need states label p k || is_lasting_need states label p k) (λ p. pushed_state (state_at states p) (label_at states label) (needs states) p k) need (λ p. one_pushed states label p k)
     ∙ (below_size (length states) k (pushed states (label_at states label) need k) (any_below (λ p. pushed_state (state_at states p) (label_at states label) (needs states) p k) (k < length states) need (λ p. pushed_below states label p k))
     ∙ sym (has-numbers_where (length states) (pushed states (label_at states label) need) k))))
+
+-- a program that is the compiled one is as small
+pub few : (program compiled : Automata) → program ≡ compiled → IsSound program → length compiled.states ≤ 500000
+few program compiled same sound = subst (λ (a : Automata). length a.states ≤ 500000) same sound.few
 
 pub push-set : (states : List State) (label : ℕ) (need given xs : List ℕ) → length states ≤ 500000 → ((k : ℕ) → has given k ≡ has (push states need label) k) → AreRising xs → ((k : ℕ) → has xs k ≡ has given k) →
     IsSet (push states need label) xs

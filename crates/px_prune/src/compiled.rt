@@ -13,34 +13,35 @@ use std::alloc::{AllocError, Global};
 use std::marker::Model;
 use std::sync::Arc;
 
-/// A program with what is computed of it once: what the bodies of its states need, and the first
-/// states of all filters. Any number of machines have a share of it, on any threads. Contracts see
-/// the program, of which all else follows.
+/// A program with what a machine that keeps only needed states asks of it: what the bodies of its
+/// states need, and the first states of all filters. It is computed once, and any number of machines
+/// have a share of it, on any threads. Contracts see the program, of which all else follows.
 #[derive(Drop)]
 pub struct Compiled {
-    program: Program,
+    program: Arc<Program>,
     needs: Needs,
     firsts: Set,
 }
 
 impl Model for Compiled {
     ghost use Rattle.std.specs.Prelude.{◌≡◌};
+    ghost use Rattle.std.specs.Arc.{arc_value};
     ghost use Rattle.px_afa.specs.Building.{Automata};
     ghost use Rattle.px_afa.specs.Sets.{first_set};
     ghost use Rattle.px_prune.specs.Needing.{needs_of};
 
     ghost Value = { Automata };
 
-    ghost view = { λ compiled. compiled.program };
+    ghost view = { λ compiled. arc_value compiled.program };
 
-    ghost invariant = { λ compiled. (compiled.needs ≡ needs_of compiled.program.states) × (compiled.firsts ≡ first_set compiled.program.firsts) };
+    ghost invariant = { λ compiled. (compiled.needs ≡ needs_of (arc_value compiled.program).states) × (compiled.firsts ≡ first_set (arc_value compiled.program).firsts) };
 }
 
 impl Compiled {
-    /// The first share of a program. It takes memory for what the states need, at most that of the
-    /// filters, and fails only where that is refused.
-    pub fn of(alloc: Global, program: Program) -> Result<Arc<Compiled>, AllocError>
-        ensures program { IfOk result (λ compiled. arc_value compiled ≡ program) }
+    /// The first share of a program, compiled. It takes memory for what the states need, at most
+    /// that of the filters, and fails only where that is refused.
+    pub fn of(alloc: Global, program: Arc<Program>) -> Result<Arc<Compiled>, AllocError>
+        ensures program { IfOk result (λ compiled. arc_value compiled ≡ arc_value program) }
     {
         let needs = Needs::build(alloc, &program)?;
         let firsts = first(alloc, &program)?;

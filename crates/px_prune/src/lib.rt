@@ -11,6 +11,5 @@ mod pushing;
 mod rows;
 
 pub use compiled::Compiled;
-pub use firsts::first;
 pub use needs::Needs;
 pub use pushing::push;

@@ -2,13 +2,10 @@
 
 ghost use Rattle.std.specs.Prelude.{◌≡◌, ◌||◌, ℕ, IfOk};
 ghost use Rattle.px_text.specs.Sets.{has};
-ghost use Rattle.px_afa.specs.Truth.{state_at};
-ghost use Rattle.px_afa.specs.Sets.{pushed_state, needs as needed};
-ghost use Rattle.px_afa.specs.Labels.{label_at};
 ghost use Rattle.px_afa.specs.Functions.{push as pushed};
-ghost use Rattle.px_prune.specs.Needing.{needs_of, is_met_need, is_lasting_need};
+ghost use Rattle.px_prune.specs.Needing.{is_met_need, is_lasting_need};
 
-use crate::needs::Needs;
+use crate::compiled::Compiled;
 use px_afa::Program;
 use px_step::{ascending, is_lasting};
 use px_text::Set;
@@ -16,53 +13,37 @@ use std::alloc::{AllocError, Global};
 
 /// The states that are needed inside a child with this label where `need` holds those that are
 /// needed of its parent. It takes memory for them, and fails only where that is refused.
-pub fn push(
-    alloc: Global,
-    program: &Program,
-    needs: &Needs,
-    need: &Set,
-    label: u32,
-) -> Result<Set, AllocError>
-    requires needs { needs.now ≡ needs_of program.now.states }
-    ensures pushed { IfOk result (λ inside. inside ≡ pushed program.now.states need.now label) }
+pub fn push(alloc: Global, compiled: &Compiled, need: &Set, label: u32) -> Result<Set, AllocError>
+    ensures pushed { IfOk result (λ inside. inside ≡ pushed compiled.now.states need.now label) }
 {
-    program.sound();
-    let inside = gathered(alloc, program, needs, need, label)?;
+    compiled.program().sound();
+    let inside = gathered(alloc, compiled, need, label)?;
     Ok(Set::from_vec(ascending(inside)))
 }
 
 // The states of a push, in any order.
 fn gathered(
     alloc: Global,
-    program: &Program,
-    needs: &Needs,
+    compiled: &Compiled,
     need: &Set,
     label: u32,
 ) -> Result<Vec<u32>, AllocError>
-    requires needs { needs.now ≡ needs_of program.now.states }
-    ensures members { IfOk result (λ inside. (k : ℕ) → has inside.items k ≡ has (pushed program.now.states need.now label) k) }
+    ensures members { IfOk result (λ inside. (k : ℕ) → has inside.items k ≡ has (pushed compiled.now.states need.now label) k) }
 {
     let mut inside = Vec::new(alloc);
     for p in need.as_slice() {
-        add_met(program, needs, label, *p, &mut inside)?;
-        add_lasting(program, label, *p, &mut inside)?;
+        add_met(compiled, label, *p, &mut inside)?;
+        add_lasting(compiled.program(), label, *p, &mut inside)?;
     }
     Ok(inside)
 }
 
 // Adds what the body of a state needs, if the child meets its test.
-fn add_met(
-    program: &Program,
-    needs: &Needs,
-    label: u32,
-    p: u32,
-    inside: &mut Vec<u32>,
-) -> Result<(), AllocError>
-    requires needs { needs.now ≡ needs_of program.now.states }
-    ensures added { IfOk result (λ _. (k : ℕ) → has inside.new.items k ≡ (has inside.old.items k || is_met_need program.now.states label p k)) }
+fn add_met(compiled: &Compiled, label: u32, p: u32, inside: &mut Vec<u32>) -> Result<(), AllocError>
+    ensures added { IfOk result (λ _. (k : ℕ) → has inside.new.items k ≡ (has inside.old.items k || is_met_need compiled.now.states label p k)) }
 {
-    if program.is_met(p, label) {
-        inside.extend_from_slice(needs.of(p))?;
+    if compiled.program().is_met(p, label) {
+        inside.extend_from_slice(compiled.needs().of(p))?;
     }
     Ok(())
 }

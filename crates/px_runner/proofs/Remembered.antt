@@ -1,5 +1,5 @@
 -- What a memo remembers goes on standing.
-use Rattle.std.proofs.Common.{◌≡◌, ℕ, zero, suc, ◌<◌, Bool, true, false, cond, List, [], ◌∷◌, ◌++◌, length, Option, Some, None, slice_get, refl, sym, ◌∙◌, ap, subst, nat_eq, ◌⊎◌, inl, inr, IfSome, IfOk}
+use Rattle.std.proofs.Common.{◌≡◌, ℕ, zero, suc, ◌+◌, ◌*◌, ◌<◌, Bool, true, false, cond, List, [], ◌∷◌, ◌++◌, length, Option, Some, None, slice_get, refl, sym, ◌∙◌, ap, subst, nat_eq, arith, ◌⊎◌, inl, inr, IfSome, IfOk}
 use Rattle.std.specs.Prelude.{Result, Ok, Err}
 use Rattle.std.specs.Ordering.{nat_cmp, is_eq}
 use Rattle.std.specs.Cmp.Lexicographic.{slice_cmp, texts_ties}
@@ -9,17 +9,20 @@ use Rattle.std.specs.BTreeMap.{BTreeMap}
 use Rattle.std.specs.HashMap as hash
 use Rattle.std.specs.HashMap.{HashMap}
 use Rattle.std.proofs.lemmas.Option.{same_Some}
+use Rattle.std.proofs.lemmas.Bool.{eqb-true}
 use Rattle.std.proofs.lemmas.Slice.Eq.{bytes_eq-Decides}
 use Rattle.px_text.specs.declared.op.Op.{Op}
 use Rattle.px_text.specs.declared.op.Op.TheVariants.{TextClass, NumberClass, Pop, Add, Push, Mask}
 use Rattle.px_text.specs.Operands.{Operand, index, set_of, first_is_set, second_is_set}
 use Rattle.px_afa.specs.declared.state.State.{State}
+use Rattle.px_afa.specs.Building.{Automata}
+use Rattle.px_afa.specs.Sets.{first_set}
 use Rattle.px_afa.specs.Functions.{push}
 use Rattle.px_afa.specs.Steps.{TakesOperands, answer_of}
 use Rattle.px_runner.specs.declared.held.Held.{Held}
 use Rattle.px_runner.specs.declared.held.Held.TheVariants.{Plain, Numbered, Own}
 use Rattle.px_runner.specs.Operands.{IsPlain, IsOperand, AreOperands}
-use Rattle.px_runner.specs.Remembering.{StandsFor, Grows, AreNumbered, number_of, IsNumberOf, IsFact, key_of, AreFacts}
+use Rattle.px_runner.specs.Remembering.{StandsFor, Grows, AreFirsts, AreNumbered, number_of, IsNumberOf, IsFact, code_of, key_of, AreFacts}
 
 abbrev Sets : Type 0
 Sets = List (List ℕ)
@@ -107,6 +110,18 @@ fact_on states old new op a b answer grows f = record {
 
 pub facts_on : {S : Type 0} (states : List State) (old new : Sets) (facts : HashMap ℕ ℕ S) → Grows old new → AreFacts states old facts → AreFacts states new facts
 facts_on states old new facts grows are op a b answer small_a small_b h = fact_on states old new op a b answer grows (are op a b answer small_a small_b h)
+
+-- the set of first states stays under its number
+pub firsts_on : (automata : Automata) (old new : Sets) (firsts : Option ℕ) → Grows old new → AreFirsts automata old firsts → AreFirsts automata new firsts
+firsts_on automata old new None grows are = are
+firsts_on automata old new (Some n) grows are = grows n (first_set automata.firsts) are
+
+-- what a value that stands for it has for a number is its number
+pub firsts_learned : (automata : Automata) (sets : Sets) (held : Held) (set : List ℕ) (number : Option ℕ) → number ≡ number_of held → set ≡ first_set automata.firsts →
+    StandsFor sets held set → AreFirsts automata sets number
+firsts_learned automata sets (Plain n) set number e same h = absurd h
+firsts_learned automata sets (Numbered n) set number e same h = rw e (h ∙ ap Some same)
+firsts_learned automata sets (Own own) set number e same h = rw e tt
 
 numbered : (sets : Sets) (held : Held) (n : ℕ) (x : Operand) → number_of held ≡ Some n → IsOperand (StandsFor sets) held x → IsNumberOf sets n x
 numbered sets (Plain k) n (index l) e h = sym (same_Some k n e) ∙ h
@@ -197,3 +212,49 @@ pub pushed_answers : {E : Type 0} (states : List State) (sets : Sets) (a b : Hel
     IfOk r (λ answer. (x y : Operand) → AreOperands states (StandsFor sets) op a b x y → answer ≡ answer_of states op x y)
 pushed_answers states sets a b set label stands plain op push_is (Ok answer) is = pushed_answer states sets a b set label answer stands plain is op push_is
 pushed_answers states sets a b set label stands plain op push_is (Err e) is = tt
+
+abbrev op_of : ℕ → Op
+op_of zero = TextClass
+op_of (suc zero) = NumberClass
+op_of (suc (suc zero)) = Pop
+op_of (suc (suc (suc zero))) = Add
+op_of (suc (suc (suc (suc zero)))) = Push
+op_of _ = Mask
+
+-- an operation has a code of its own
+op_is : (op : Op) → op_of (code_of op) ≡ op
+op_is TextClass = refl
+op_is NumberClass = refl
+op_is Pop = refl
+op_is Add = refl
+op_is Push = refl
+op_is Mask = refl
+
+-- a step at operands that have these numbers, and its answer
+pub fact_is : (states : List State) (sets : Sets) (op : Op) (a b answer : Held) (i j n : ℕ) (x y : Operand) → number_of a ≡ Some i → number_of b ≡ Some j → answer ≡ Numbered n →
+    AreOperands states (StandsFor sets) op a b x y → StandsFor sets answer (answer_of states op x y) → IsFact states sets op i j n
+fact_is states sets op a b answer i j n x y e f g o stands = record {
+  x = x;
+  y = y;
+  first = numbered sets a i x e o.first;
+  second = numbered sets b j y f o.second;
+  taken = o.taken;
+  answers = subst (λ held. StandsFor sets held (answer_of states op x y)) g stands;
+}
+
+-- one fact more
+pub facts_more : {S : Type 0} (states : List State) (sets : Sets) (m n : HashMap ℕ ℕ S) (op : Op) (a b at : ℕ) → a < 4294967296 → b < 4294967296 → IsFact states sets op a b at →
+    AreFacts states sets m → ((q : ℕ) → hash.get nat_eq n q ≡ cond (nat_eq (key_of op a b) q) (Some at) (hash.get nat_eq m q)) → AreFacts states sets n
+facts_more states sets m n op a b at small_a small_b fact are up op2 c d found small_c small_d h =
+    go (nat_eq (key_of op a b) (key_of op2 c d)) refl (sym (up (key_of op2 c d)) ∙ h)
+  where
+    go : (same : Bool) → nat_eq (key_of op a b) (key_of op2 c d) ≡ same → cond same (Some at) (hash.get nat_eq m (key_of op2 c d)) ≡ Some found → IsFact states sets op2 c d found
+    go true same is =
+        let keys : (code_of op * 4294967296 + a) * 4294967296 + b ≡ (code_of op2 * 4294967296 + c) * 4294967296 + d = eqb-true (key_of op a b) (key_of op2 c d) same in
+        let codes : code_of op ≡ code_of op2 = omega arith in
+        let first : a ≡ c = omega arith in
+        let second : b ≡ d = omega arith in
+        let ops : op ≡ op2 = sym (op_is op) ∙ (ap op_of codes ∙ op_is op2) in
+        subst (λ r. IsFact states sets op2 c d r) (same_Some at found is)
+        (subst (λ q. IsFact states sets op2 c q at) second (subst (λ q. IsFact states sets op2 q b at) first (subst (λ q. IsFact states sets q a b at) ops fact)))
+    go false same is = are op2 c d found small_c small_d is

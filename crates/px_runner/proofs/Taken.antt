@@ -11,7 +11,7 @@ use Rattle.px_afa.specs.Contents.{ElementKind, leaf_kind, leaf_text}
 use Rattle.px_afa.specs.Steps.{Step, step, value_steps, raise_steps, label_of, leaf_steps, run_of}
 use Rattle.px_runner.specs.declared.held.Held.{Held}
 use Rattle.px_runner.specs.declared.runner.Runner.{Runner}
-use Rattle.px_runner.specs.Memos.{Advances}
+use Rattle.px_runner.specs.Memos.{Keeps, Advances}
 use Rattle.px_runner.specs.Events.{Open, Opened, end_steps, with_child, values_in, begun, after_leaf, after_event, event_steps, after_events, events_steps, ground}
 use Rattle.px_runner.specs.Running.{IsAt, HasRun, held_by, steps_made}
 use Rattle.px_runner.specs.Gives.{Holds}
@@ -26,58 +26,48 @@ use Rattle.px_afa.specs.Accepting.{HaveSteps, accepted}
 use Rattle.px_xpath.specs.Histories.{Change, live, matches}
 use Rattle.px_afa.specs.Machine.{machine_of, gathered_of}
 
-module _ {M : Type 0} (states : M → List State) (stands_for : M → Held → List ℕ → Type 0) (tells : M → List Step → List (List ℕ) → Type 0) where
+module _ {M : Type 0} (automata : M → Automata) (stands_for : M → Held → List ℕ → Type 0) (tells : M → List Step → List (List ℕ) → Type 0) where
   -- the runner took the event
-  abbrev pub Took : (old new : M) → (runner after : Runner) → List State → Event → Type 0
-  Took old new runner after program event = (opened : Opened) (made : ℕ) → IsAt states stands_for old runner opened made →
-      IsAt states stands_for new after (after_event program opened event) (made + length (event_steps program opened event))
-      × Advances states stands_for tells old new (event_steps program opened event) (held_by event)
+  abbrev pub Took : (old new : M) → (runner after : Runner) → Event → Type 0
+  Took old new runner after event = (opened : Opened) (made : ℕ) → IsAt automata stands_for old runner opened made →
+      IsAt automata stands_for new after (after_event (automata old).states opened event) (made + length (event_steps (automata old).states opened event))
+      × Advances automata stands_for tells old new (event_steps (automata old).states opened event) (held_by event)
 
-  pub took_along : {A E : Type 0} (old new : M) (runner after : Runner) (program : List State) (r : Result A E) (event next : Event) → next ≡ event →
-      OnOk r (Took old new runner after program event) → OnOk r (Took old new runner after program next)
-  took_along old new runner after program r event next same h = subst (λ e. OnOk r (Took old new runner after program e)) (sym same) h
+  pub took_along : {A E : Type 0} (old new : M) (runner after : Runner) (r : Result A E) (event next : Event) → next ≡ event →
+      OnOk r (Took old new runner after event) → OnOk r (Took old new runner after next)
+  took_along old new runner after r event next same h = subst (λ e. OnOk r (Took old new runner after e)) (sym same) h
 
-  pub took_start : {A E : Type 0} (old new : M) (runner after : Runner) (program : List State) (r : Result A E) (name : List ℕ) (label : ℕ) →
-      states old ≡ program → label ≡ label_of program (ElementKind name) →
-      OnOk r ((opened : Opened) (made : ℕ) → IsAt states stands_for old runner opened made →
-      IsAt states stands_for new after (begun (states old) opened label) (made + 1)
-      × Advances states stands_for tells old new (step (states old) Push (set_of opened.innermost.needed) (index label) ∷ []) ([] ∷ [])) →
-      OnOk r (Took old new runner after program (Start name))
-  took_start old new runner after program (Err e) name label same is h = h
-  took_start old new runner after program (Ok v) name label same is h = λ opened made at.
-      let P : List State → ℕ → Type 0 = λ s l.
-      IsAt states stands_for new after (begun s opened l) (made + 1)
-      × Advances states stands_for tells old new (step s Push (set_of opened.innermost.needed) (index l) ∷ []) ([] ∷ []) in
-      subst (λ l. P program l) is (subst (λ s. P s label) same (h opened made at))
-
-  leaf_taken : (old new : M) (runner after : Runner) (program : List State) (opened : Opened) (made : ℕ) (name : Option (List ℕ)) (label : ℕ) (value said : List ℕ) →
-      label ≡ label_of program (leaf_kind name) → said ≡ leaf_text name value →
-      IsAt states stands_for new after (record { innermost = with_child program opened.innermost (values_in program value) label said; outer = opened.outer }) (made + 6)
-      × Advances states stands_for tells old new (value_steps program value ++ raise_steps program opened.innermost.needed opened.innermost.gathered (values_in program value) label) [] →
-      IsAt states stands_for new after (after_leaf program opened name value) (made + 6)
-      × Advances states stands_for tells old new (leaf_steps program opened.innermost.needed opened.innermost.gathered name value) []
-  leaf_taken old new runner after program opened made name label value said is all h =
-      let P : ℕ → List ℕ → Type 0 = λ l t.
-      IsAt states stands_for new after (record { innermost = with_child program opened.innermost (values_in program value) l t; outer = opened.outer }) (made + 6)
-      × Advances states stands_for tells old new (value_steps program value ++ raise_steps program opened.innermost.needed opened.innermost.gathered (values_in program value) l) [] in
-      subst (λ l. P l (leaf_text name value)) is (subst (λ t. P label t) all h)
+  pub took_start : {A E : Type 0} (old new : M) (runner after : Runner) (r : Result A E) (name : List ℕ) (label : ℕ) →
+      label ≡ label_of (automata old).states (ElementKind name) →
+      OnOk r ((opened : Opened) (made : ℕ) → IsAt automata stands_for old runner opened made →
+      IsAt automata stands_for new after (begun (automata old).states opened label) (made + 1)
+      × Advances automata stands_for tells old new (step (automata old).states Push (set_of opened.innermost.needed) (index label) ∷ []) ([] ∷ [])) →
+      OnOk r (Took old new runner after (Start name))
+  took_start old new runner after (Err e) name label is h = h
+  took_start old new runner after (Ok v) name label is h = λ opened made at.
+      let P : ℕ → Type 0 = λ l.
+      IsAt automata stands_for new after (begun (automata old).states opened l) (made + 1)
+      × Advances automata stands_for tells old new (step (automata old).states Push (set_of opened.innermost.needed) (index l) ∷ []) ([] ∷ []) in
+      subst P is (h opened made at)
 
   -- what a leaf's call answers
-  abbrev pub TookLeaf : (old new : M) → (runner after : Runner) → List State → (label : ℕ) → (value said : List ℕ) → Type 0
-  TookLeaf old new runner after program label value said = (opened : Opened) (made : ℕ) → IsAt states stands_for old runner opened made →
-      IsAt states stands_for new after (record { innermost = with_child program opened.innermost (values_in program value) label said; outer = opened.outer }) (made + 6)
-      × Advances states stands_for tells old new (value_steps program value ++ raise_steps program opened.innermost.needed opened.innermost.gathered (values_in program value) label) []
+  abbrev pub TookLeaf : (old new : M) → (runner after : Runner) → (label : ℕ) → (value said : List ℕ) → Type 0
+  TookLeaf old new runner after label value said = (opened : Opened) (made : ℕ) → IsAt automata stands_for old runner opened made →
+      IsAt automata stands_for new after
+      (record { innermost = with_child (automata old).states opened.innermost (values_in (automata old).states value) label said; outer = opened.outer }) (made + 6)
+      × Advances automata stands_for tells old new
+      (value_steps (automata old).states value ++ raise_steps (automata old).states opened.innermost.needed opened.innermost.gathered (values_in (automata old).states value) label) []
 
-  pub took_leaf : {A E : Type 0} (old new : M) (runner after : Runner) (program : List State) (r : Result A E) (name : Option (List ℕ)) (value slice said : List ℕ) (label : ℕ) →
-      label ≡ label_of program (leaf_kind name) → slice ≡ value → said ≡ leaf_text name value → OnOk r (TookLeaf old new runner after program label slice said) →
-      OnOk r ((opened : Opened) (made : ℕ) → IsAt states stands_for old runner opened made →
-      IsAt states stands_for new after (after_leaf program opened name value) (made + 6)
-      × Advances states stands_for tells old new (leaf_steps program opened.innermost.needed opened.innermost.gathered name value) [])
-  took_leaf old new runner after program (Err e) name value slice said label is same all h = h
-  took_leaf old new runner after program (Ok v) name value slice said label is same all h = λ opened made at.
-      leaf_taken old new runner after program opened made name label value said is all
-      (subst (λ t. IsAt states stands_for new after (record { innermost = with_child program opened.innermost (values_in program t) label said; outer = opened.outer }) (made + 6)
-      × Advances states stands_for tells old new (value_steps program t ++ raise_steps program opened.innermost.needed opened.innermost.gathered (values_in program t) label) []) same (h opened made at))
+  pub took_leaf : {A E : Type 0} (old new : M) (runner after : Runner) (r : Result A E) (name : Option (List ℕ)) (value slice said : List ℕ) (label : ℕ) →
+      label ≡ label_of (automata old).states (leaf_kind name) → slice ≡ value → said ≡ leaf_text name value → OnOk r (TookLeaf old new runner after label slice said) →
+      OnOk r ((opened : Opened) (made : ℕ) → IsAt automata stands_for old runner opened made →
+      IsAt automata stands_for new after (after_leaf (automata old).states opened name value) (made + 6)
+      × Advances automata stands_for tells old new (leaf_steps (automata old).states opened.innermost.needed opened.innermost.gathered name value) [])
+  took_leaf old new runner after (Err e) name value slice said label is same all h = h
+  took_leaf old new runner after (Ok v) name value slice said label is same all h =
+      subst (λ l. TookLeaf old new runner after l value (leaf_text name value)) is
+      (subst (λ t. TookLeaf old new runner after label value t) all
+      (subst (λ t. TookLeaf old new runner after label t said) same h))
 
 event-few : (program : List State) (opened : Opened) (event : Event) → length (event_steps program opened event) ≤ 7
 event-few program opened (Start name) = omega arith
@@ -98,55 +88,57 @@ events-few program opened (event ∷ events) =
     let both = length-append (event_steps program opened event) (events_steps program (after_event program opened event) events) in
     omega arith
 
-module _ {M : Type 0} (states : M → List State) (stands_for : M → Held → List ℕ → Type 0) (tells : M → List Step → List (List ℕ) → Type 0) where
-  pub run_on : {A E : Type 0} (old new : M) (runner after : Runner) (automata : Automata) (r : Result A E) (next : Event) →
-      OnOk r (Took states stands_for tells old new runner after automata.states next) →
-      OnOk r ((given : List Event) → HasRun states stands_for old runner automata given →
-      HasRun states stands_for new after automata (given ++ next ∷ [])
-      × Advances states stands_for tells old new (event_steps automata.states (after_events automata.states (ground automata) given) next) (held_by next))
-  run_on old new runner after automata (Err e) next h = h
-  run_on old new runner after automata (Ok v) next h = λ given run.
-      let opened = after_events automata.states (ground automata) given in
-      let made = events_steps automata.states (ground automata) given in
+module _ {M : Type 0} (automata : M → Automata) (stands_for : M → Held → List ℕ → Type 0) (tells : M → List Step → List (List ℕ) → Type 0) where
+  pub run_on : {A E : Type 0} (old new : M) (runner after : Runner) (r : Result A E) (next : Event) →
+      OnOk r (Took automata stands_for tells old new runner after next) →
+      OnOk r ((given : List Event) → HasRun automata stands_for old runner given →
+      HasRun automata stands_for new after (given ++ next ∷ [])
+      × Advances automata stands_for tells old new (event_steps (automata old).states (after_events (automata old).states (ground (automata old)) given) next) (held_by next))
+  run_on old new runner after (Err e) next h = h
+  run_on old new runner after (Ok v) next h = λ given run.
+      let opened = after_events (automata old).states (ground (automata old)) given in
+      let made = events_steps (automata old).states (ground (automata old)) given in
       let there = h opened (length made) run.at in
-      let steps : length (events_steps automata.states (ground automata) (given ++ next ∷ [])) ≡ length made + length (event_steps automata.states opened next) =
-      ap length (steps-append automata.states (ground automata) given (next ∷ []) ∙ ap (λ l. made ++ l) (append-nil (event_steps automata.states opened next)))
-      ∙ length-append made (event_steps automata.states opened next) in (
-        record {
-          at =
-              subst (λ o. IsAt states stands_for new after o (length (events_steps automata.states (ground automata) (given ++ next ∷ [])))) (sym (after-append automata.states (ground automata) given (next ∷ [])))
-              (subst (λ n. IsAt states stands_for new after (after_event automata.states opened next) n) (sym steps) there.0);
-        },
-        there.1,
-      )
+      let steps : length (events_steps (automata old).states (ground (automata old)) (given ++ next ∷ [])) ≡ length made + length (event_steps (automata old).states opened next) =
+      ap length (steps-append (automata old).states (ground (automata old)) given (next ∷ []) ∙ ap (λ l. made ++ l) (append-nil (event_steps (automata old).states opened next)))
+      ∙ length-append made (event_steps (automata old).states opened next) in
+      let At : Automata → Type 0 = λ p.
+      IsAt automata stands_for new after (after_events p.states (ground p) (given ++ next ∷ [])) (length (events_steps p.states (ground p) (given ++ next ∷ []))) in
+      let at : At (automata old) =
+      subst (λ o. IsAt automata stands_for new after o (length (events_steps (automata old).states (ground (automata old)) (given ++ next ∷ []))))
+      (sym (after-append (automata old).states (ground (automata old)) given (next ∷ [])))
+      (subst (λ n. IsAt automata stands_for new after (after_event (automata old).states opened next) n) (sym steps) there.0) in
+      (record { at = subst At (sym there.1.keeps.same) at }, there.1)
 
   -- what the document root has gathered in the end
-  pub ground_holds : (memo : M) (runner : Runner) (automata : Automata) (root : Root) → HasRun states stands_for memo runner automata (events_of root) →
-      Holds states stands_for memo runner.innermost.gathered (gathered_of (machine_of automata.states) (first_set automata.firsts) [] (root_content root))
-  ground_holds memo runner automata root run =
-      subst (λ o. Holds states stands_for memo runner.innermost.gathered o.innermost.gathered) (tree-opened automata root) run.at.inner.gathered
+  pub ground_holds : (memo : M) (runner : Runner) (root : Root) → HasRun automata stands_for memo runner (events_of root) →
+      Holds automata stands_for memo runner.innermost.gathered (gathered_of (machine_of (automata memo).states) (first_set (automata memo).firsts) [] (root_content root))
+  ground_holds memo runner root run =
+      subst (λ o. Holds automata stands_for memo runner.innermost.gathered o.innermost.gathered) (tree-opened (automata memo) root) run.at.inner.gathered
 
-  pub steps_are : (memo : M) (runner : Runner) (automata : Automata) (root : Root) → HasRun states stands_for memo runner automata (events_of root) →
-      steps_made runner ≡ length (run_of automata root)
-  steps_are memo runner automata root run = run.at.steps ∙ ap length (tree-steps automata root)
+  pub steps_are : (memo : M) (runner : Runner) (root : Root) → HasRun automata stands_for memo runner (events_of root) → steps_made runner ≡ length (run_of (automata memo) root)
+  steps_are memo runner root run = run.at.steps ∙ ap length (tree-steps (automata memo) root)
 
-  -- the ids that are accepted of what the root's value stands for
-  pub finished : {E : Type 0} (memo : M) (runner : Runner) (automata : Automata) (r : Result (List ℕ) E) (found : List ℕ) →
-      ((set : List ℕ) → stands_for memo runner.innermost.gathered set → AreStates (states memo) set → found ≡ set) →
-      IfOk r (λ ids. ids ≡ accept automata.firsts found) →
-      IfOk r (λ ids. (root : Root) → HasRun states stands_for memo runner automata (events_of root) →
-      ids ≡ accepted (machine_of automata.states) automata.firsts (root_content root))
-  finished memo runner automata (Err e) found one h = h
-  finished memo runner automata (Ok ids) found one h = λ root run.
-      let holds = ground_holds memo runner automata root run in
-      h ∙ ap (accept automata.firsts) (one (gathered_of (machine_of automata.states) (first_set automata.firsts) [] (root_content root)) holds.stands holds.states_alone)
+  -- the ids that are accepted of what the root's value stands for, by the program that the memo still has
+  pub finished : {E : Type 0} (memo after : M) (runner : Runner) (program : Automata) (r : Result (List ℕ) E) (found : List ℕ) →
+      program ≡ automata after → Keeps automata stands_for memo after →
+      ((set : List ℕ) → stands_for memo runner.innermost.gathered set → AreStates (automata memo).states set → found ≡ set) →
+      IfOk r (λ ids. ids ≡ accept program.firsts found) →
+      IfOk r (λ ids. (root : Root) → HasRun automata stands_for memo runner (events_of root) →
+      ids ≡ accepted (machine_of (automata memo).states) (automata memo).firsts (root_content root))
+  finished memo after runner program (Err e) found is keeps one h = h
+  finished memo after runner program (Ok ids) found is keeps one h = λ root run.
+      let holds = ground_holds memo runner root run in
+      h
+      ∙ (ap (λ (p : Automata). accept p.firsts found) (is ∙ keeps.same)
+      ∙ ap (accept (automata memo).firsts) (one (gathered_of (machine_of (automata memo).states) (first_set (automata memo).firsts) [] (root_content root)) holds.stands holds.states_alone))
 
   -- and where the program is that of a history, those are its matches
-  pub matched : {E : Type 0} (memo : M) (runner : Runner) (automata : Automata) (r : Result (List ℕ) E) →
-      IfOk r (λ ids. (root : Root) → HasRun states stands_for memo runner automata (events_of root) →
-      ids ≡ accepted (machine_of automata.states) automata.firsts (root_content root)) →
-      IfOk r (λ ids. (history : List Change) (root : Root) → automata ≡ program history → HaveSteps (live history) →
-      HasRun states stands_for memo runner automata (events_of root) → ids ≡ matches history root)
-  matched memo runner automata (Err e) h = h
-  matched memo runner automata (Ok ids) h = λ history root same steps run.
+  pub matched : {E : Type 0} (memo : M) (runner : Runner) (r : Result (List ℕ) E) →
+      IfOk r (λ ids. (root : Root) → HasRun automata stands_for memo runner (events_of root) →
+      ids ≡ accepted (machine_of (automata memo).states) (automata memo).firsts (root_content root)) →
+      IfOk r (λ ids. (history : List Change) (root : Root) → automata memo ≡ program history → HaveSteps (live history) →
+      HasRun automata stands_for memo runner (events_of root) → ids ≡ matches history root)
+  matched memo runner (Err e) h = h
+  matched memo runner (Ok ids) h = λ history root same steps run.
       h root run ∙ (ap (λ (a : Automata). accepted (machine_of a.states) a.firsts (root_content root)) same ∙ accepted-matches (live history) steps root)

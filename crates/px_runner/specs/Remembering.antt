@@ -1,5 +1,5 @@
 -- What a memo remembers: sets under numbers, and the answers of steps under the numbers of their operands.
-use Rattle.std.specs.Prelude.{◌≡◌, ℕ, ◌+◌, ◌*◌, ◌<◌, List, Option, Some, None, slice_get, nat_eq}
+use Rattle.std.specs.Prelude.{◌≡◌, ℕ, ◌+◌, ◌*◌, ◌<◌, List, Option, Some, None, IfSome, slice_get, nat_eq}
 use Rattle.std.specs.Ordering.{nat_cmp}
 use Rattle.std.specs.Cmp.Lexicographic.{slice_cmp}
 use Rattle.std.specs.BTreeMap as tree
@@ -10,13 +10,15 @@ use Rattle.px_text.specs.declared.op.Op.{Op}
 use Rattle.px_text.specs.declared.op.Op.TheVariants.{TextClass, NumberClass, Pop, Add, Push, Mask}
 use Rattle.px_text.specs.Operands.{Operand, index, set_of}
 use Rattle.px_afa.specs.declared.state.State.{State}
+use Rattle.px_afa.specs.Building.{Automata}
+use Rattle.px_afa.specs.Sets.{first_set}
 use Rattle.px_afa.specs.Steps.{TakesOperands, answer_of}
 use Rattle.px_runner.specs.declared.held.Held.{Held}
 use Rattle.px_runner.specs.declared.held.Held.TheVariants.{Plain, Numbered, Own}
 
--- the states of the program that it works for, and the sets by their numbers
+-- the program that it works for, and the sets by their numbers
 pub record Remembered : Type 0 where
-  pub states : List State
+  pub automata : Automata
   pub sets : List (List ℕ)
 
 -- a number stands for the set under it, and a set for itself
@@ -28,6 +30,10 @@ StandsFor sets (Own own) set = own ≡ set
 -- each set stays under its number
 abbrev pub Grows : List (List ℕ) → List (List ℕ) → Type 0
 Grows old new = (n : ℕ) (set : List ℕ) → slice_get old n ≡ Some set → slice_get new n ≡ Some set
+
+-- the set of first states has the number, where there is one
+abbrev pub AreFirsts : Automata → List (List ℕ) → Option ℕ → Type 0
+AreFirsts automata sets firsts = IfSome firsts (λ n. slice_get sets n ≡ Some (first_set automata.firsts))
 
 -- the map has each set with its number, and no other
 abbrev pub AreNumbered : List (List ℕ) → BTreeMap (List ℕ) ℕ → Type 0

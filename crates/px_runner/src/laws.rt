@@ -47,6 +47,6 @@ pub fn accepted_are_matches()
 
 /// When it has taken all events of a document, a runner has made the steps of the run over it.
 pub fn steps_are_counted<M: Memo>()
-    ensures count { (memo : M) (runner : Runner) (automata : Automata) (root : Root) →
-        HasRun M.states M.stands_for memo runner automata (events_of root) → steps_made runner ≡ length (run_of automata root) }
+    ensures count { (memo : M) (runner : Runner) (root : Root) →
+        HasRun M.automata M.stands_for memo runner (events_of root) → steps_made runner ≡ length (run_of (M.automata memo) root) }
 {}

@@ -15,16 +15,15 @@ use crate::frame::Frame;
 use crate::held::Held;
 use crate::memo::Memo;
 use crate::ops::{add, mask, pop, value_number, value_text};
-use px_afa::Program;
 use std::alloc::AllocError;
 
 /// The Value states that are true of texts of these classes.
 pub fn values<M: Memo>(memo: &mut M, text: u32, number: u32) -> Result<Held, AllocError>
-    requires text { IsTextClass (M.states memo.old) text }
-    requires number { IsNumberClass (M.states memo.old) number }
-    ensures ok { IfOk result (λ held. Gives M.states M.stands_for M.tells memo.old memo.new held
-        (class_steps (M.states memo.old) text number) (class_values (M.states memo.old) text number)) }
-    ensures err { OnErr result (Keeps M.states M.stands_for memo.old memo.new) }
+    requires text { IsTextClass (M.automata memo.old).states text }
+    requires number { IsNumberClass (M.automata memo.old).states number }
+    ensures ok { IfOk result (λ held. Gives M.automata M.stands_for M.tells memo.old memo.new held
+        (class_steps (M.automata memo.old).states text number) (class_values (M.automata memo.old).states text number)) }
+    ensures err { OnErr result (Keeps M.automata M.stands_for memo.old memo.new) }
 {
     let text = value_text(memo, text)?;
     let number = value_number(memo, number)?;
@@ -32,17 +31,14 @@ pub fn values<M: Memo>(memo: &mut M, text: u32, number: u32) -> Result<Held, All
 }
 
 /// The Value states that are true of a text.
-pub fn text_values<M: Memo>(
-    program: &Program,
-    memo: &mut M,
-    text: &[u8],
-) -> Result<Held, AllocError>
-    requires { M.states memo.old ≡ program.now.states }
-    ensures ok { IfOk result (λ held. Gives M.states M.stands_for M.tells memo.old memo.new held
-        (value_steps program.now.states text.now) (values_in program.now.states text.now)) }
-    ensures err { OnErr result (Keeps M.states M.stands_for memo.old memo.new) }
+pub fn text_values<M: Memo>(memo: &mut M, text: &[u8]) -> Result<Held, AllocError>
+    ensures ok { IfOk result (λ held. Gives M.automata M.stands_for M.tells memo.old memo.new held
+        (value_steps (M.automata memo.old).states text.now) (values_in (M.automata memo.old).states text.now)) }
+    ensures err { OnErr result (Keeps M.automata M.stands_for memo.old memo.new) }
 {
-    values(memo, program.text_class(text), program.number_class(text))
+    let literal = memo.program().text_class(text);
+    let number = memo.program().number_class(text);
+    values(memo, literal, number)
 }
 
 /// What has been gathered after a child with the label and the set, of which only the needed states
@@ -54,12 +50,12 @@ pub fn raise<M: Memo>(
     set: &Held,
     label: u32,
 ) -> Result<Held, AllocError>
-    requires sets { (n a s : List ℕ) × Holds M.states M.stands_for memo.old needed.now n × Holds M.states M.stands_for memo.old gathered.now a × Holds M.states M.stands_for memo.old set.now s }
-    requires label { IsLabel (M.states memo.old) label }
+    requires sets { (n a s : List ℕ) × Holds M.automata M.stands_for memo.old needed.now n × Holds M.automata M.stands_for memo.old gathered.now a × Holds M.automata M.stands_for memo.old set.now s }
+    requires label { IsLabel (M.automata memo.old).states label }
     ensures ok { IfOk result (λ held. (n a s : List ℕ) →
-        Holds M.states M.stands_for memo.old needed.now n → Holds M.states M.stands_for memo.old gathered.now a → Holds M.states M.stands_for memo.old set.now s →
-        Gives M.states M.stands_for M.tells memo.old memo.new held (raise_steps (M.states memo.old) n a s label) (raised (M.states memo.old) n a s label)) }
-    ensures err { OnErr result (Keeps M.states M.stands_for memo.old memo.new) }
+        Holds M.automata M.stands_for memo.old needed.now n → Holds M.automata M.stands_for memo.old gathered.now a → Holds M.automata M.stands_for memo.old set.now s →
+        Gives M.automata M.stands_for M.tells memo.old memo.new held (raise_steps (M.automata memo.old).states n a s label) (raised (M.automata memo.old).states n a s label)) }
+    ensures err { OnErr result (Keeps M.automata M.stands_for memo.old memo.new) }
 {
     let popped = pop(memo, set, label)?;
     let masked = mask(memo, &popped, needed)?;
@@ -73,15 +69,15 @@ pub fn give<M: Memo>(
     set: &Held,
     label: u32,
 ) -> Result<(), AllocError>
-    requires frame { (o : Open) × IsOpen M.states M.stands_for memo.old frame.old o }
-    requires set { (s : List ℕ) × Holds M.states M.stands_for memo.old set.now s }
-    requires label { IsLabel (M.states memo.old) label }
+    requires frame { (o : Open) × IsOpen M.automata M.stands_for memo.old frame.old o }
+    requires set { (s : List ℕ) × Holds M.automata M.stands_for memo.old set.now s }
+    requires label { IsLabel (M.automata memo.old).states label }
     ensures ok { OnOk result ((o : Open) (s text : List ℕ) →
-        IsOpen M.states M.stands_for memo.old frame.old o → Holds M.states M.stands_for memo.old set.now s →
-        IsOpen M.states M.stands_for memo.new frame.new (with_child (M.states memo.old) o s label text)
-        × Advances M.states M.stands_for M.tells memo.old memo.new (raise_steps (M.states memo.old) o.needed o.gathered s label) []) }
+        IsOpen M.automata M.stands_for memo.old frame.old o → Holds M.automata M.stands_for memo.old set.now s →
+        IsOpen M.automata M.stands_for memo.new frame.new (with_child (M.automata memo.old).states o s label text)
+        × Advances M.automata M.stands_for M.tells memo.old memo.new (raise_steps (M.automata memo.old).states o.needed o.gathered s label) []) }
     ensures begins { OnOk result (frame.new.begins ≡ frame.old.begins) }
-    ensures err { OnErr result (Keeps M.states M.stands_for memo.old memo.new) }
+    ensures err { OnErr result (Keeps M.automata M.stands_for memo.old memo.new) }
 {
     let gathered = raise(memo, &frame.needed, &frame.gathered, set, label)?;
     frame.gathered = gathered;
@@ -90,23 +86,21 @@ pub fn give<M: Memo>(
 
 /// Gives an element that ends, whose text is given, to its parent.
 pub fn close<M: Memo>(
-    program: &Program,
     memo: &mut M,
     child: &Frame,
     parent: &mut Frame,
     text: &[u8],
 ) -> Result<(), AllocError>
-    requires program { M.states memo.old ≡ program.now.states }
-    requires child { (c : Open) × IsOpen M.states M.stands_for memo.old child.now c }
-    requires parent { (p : Open) × IsOpen M.states M.stands_for memo.old parent.old p }
+    requires child { (c : Open) × IsOpen M.automata M.stands_for memo.old child.now c }
+    requires parent { (p : Open) × IsOpen M.automata M.stands_for memo.old parent.old p }
     ensures ok { OnOk result ((c p : Open) (said : List ℕ) →
-        IsOpen M.states M.stands_for memo.old child.now c → IsOpen M.states M.stands_for memo.old parent.old p → c.text ≡ text.now →
-        IsOpen M.states M.stands_for memo.new parent.new (with_child program.now.states p (whole_set program.now.states c) c.label said)
-        × Advances M.states M.stands_for M.tells memo.old memo.new (end_steps program.now.states c (p ∷ [])) []) }
+        IsOpen M.automata M.stands_for memo.old child.now c → IsOpen M.automata M.stands_for memo.old parent.old p → c.text ≡ text.now →
+        IsOpen M.automata M.stands_for memo.new parent.new (with_child (M.automata memo.old).states p (whole_set (M.automata memo.old).states c) c.label said)
+        × Advances M.automata M.stands_for M.tells memo.old memo.new (end_steps (M.automata memo.old).states c (p ∷ [])) []) }
     ensures begins { OnOk result (parent.new.begins ≡ parent.old.begins) }
-    ensures err { OnErr result (Keeps M.states M.stands_for memo.old memo.new) }
+    ensures err { OnErr result (Keeps M.automata M.stands_for memo.old memo.new) }
 {
-    let values = text_values(program, memo, text)?;
+    let values = text_values(memo, text)?;
     let set = add(memo, &child.gathered, &values)?;
     give(memo, parent, &set, child.label)
 }

@@ -14,7 +14,7 @@ ghost use Rattle.px_afa.specs.Accepting.{HaveSteps, accepted};
 ghost use Rattle.px_afa.specs.Steps.{step, value_steps, raise_steps};
 ghost use Rattle.px_reader.specs.declared.event.Event.{Event as Happened};
 ghost use Rattle.px_reader.specs.Happenings.{event_of};
-ghost use Rattle.px_runner.specs.Operands.{IsLabel, AreStates};
+ghost use Rattle.px_runner.specs.Operands.{IsLabel};
 ghost use Rattle.px_runner.specs.Memos.{Keeps, Advances};
 ghost use Rattle.px_runner.specs.Events.{Opened, with_child, values_in, begun, after_end, end_steps, after_event, event_steps, after_events, ground};
 ghost use Rattle.px_runner.specs.Frames.{IsOpen};
@@ -24,8 +24,6 @@ use crate::frame::Frame;
 use crate::memo::Memo;
 use crate::ops::push;
 use crate::raise::{close, give, text_values};
-use px_afa::Program;
-use px_prune::first;
 use px_reader::Happening;
 use px_step::accept;
 use px_text::{Ids, Set};
@@ -48,20 +46,13 @@ pub struct Runner {
 
 impl Runner {
     /// A runner before the first event of a document.
-    pub fn new<M: Memo>(
-        alloc: Global,
-        program: &Program,
-        memo: &mut M,
-    ) -> Result<Runner, AllocError>
-        requires program { M.states memo.old ≡ program.now.states }
-        ensures ok { IfOk result (λ runner. HasRun M.states M.stands_for memo.new runner program.now []) }
-        ensures held { IfOk result (λ runner. Advances M.states M.stands_for M.tells memo.old memo.new [] (first_set program.now.firsts ∷ [] ∷ [])) }
-        ensures err { OnErr result (Keeps M.states M.stands_for memo.old memo.new) }
+    pub fn new<M: Memo>(alloc: Global, memo: &mut M) -> Result<Runner, AllocError>
+        ensures ok { IfOk result (λ runner. HasRun M.automata M.stands_for memo.new runner []) }
+        ensures held { IfOk result (λ runner. Advances M.automata M.stands_for M.tells memo.old memo.new [] (first_set (M.automata memo.old).firsts ∷ [] ∷ [])) }
+        ensures err { OnErr result (Keeps M.automata M.stands_for memo.old memo.new) }
     {
-        program.sound();
         let none = Set::empty(alloc);
-        let firsts = first(alloc, program)?;
-        let innermost = ground_frame(memo, &firsts, &none)?;
+        let innermost = ground_frame(memo, &none)?;
         Ok(Runner {
             innermost,
             outer: Vec::new(alloc),
@@ -73,24 +64,18 @@ impl Runner {
 
     /// The ids of the filters that hold of the document, rising, when all its events have been
     /// taken.
-    pub fn finish<M: Memo>(
-        self,
-        alloc: Global,
-        program: &Program,
-        memo: &mut M,
-    ) -> Result<Ids, AllocError>
-        requires program { M.states memo.old ≡ program.now.states }
-        requires whole { (root : Root) × HasRun M.states M.stands_for memo.old self program.now (events_of root) }
-        ensures accepted { IfOk result (λ ids. (root : Root) → HasRun M.states M.stands_for memo.old self program.now (events_of root) →
-            ids ≡ accepted (machine_of program.now.states) program.now.firsts (root_content root)) }
+    pub fn finish<M: Memo>(self, alloc: Global, memo: &mut M) -> Result<Ids, AllocError>
+        requires whole { (root : Root) × HasRun M.automata M.stands_for memo.old self (events_of root) }
+        ensures accepted { IfOk result (λ ids. (root : Root) → HasRun M.automata M.stands_for memo.old self (events_of root) →
+            ids ≡ accepted (machine_of (M.automata memo.old).states) (M.automata memo.old).firsts (root_content root)) }
         ensures matches { IfOk result (λ ids. (history : List Change) (root : Root) →
-            program.now ≡ afa.program history → HaveSteps (live history) → HasRun M.states M.stands_for memo.old self program.now (events_of root) →
+            M.automata memo.old ≡ afa.program history → HaveSteps (live history) → HasRun M.automata M.stands_for memo.old self (events_of root) →
             ids ≡ matches history root) }
-        ensures ok { IfOk result (λ ids. Advances M.states M.stands_for M.tells memo.old memo.new [] []) }
-        ensures err { OnErr result (Keeps M.states M.stands_for memo.old memo.new) }
+        ensures ok { IfOk result (λ ids. Advances M.automata M.stands_for M.tells memo.old memo.new [] []) }
+        ensures err { OnErr result (Keeps M.automata M.stands_for memo.old memo.new) }
     {
         let gathered = memo.set_of(&self.innermost.gathered)?;
-        accept(alloc, program, &gathered)
+        accept(alloc, memo.program(), &gathered)
     }
 
     /// How many steps it made. It takes no memory.
@@ -102,70 +87,59 @@ impl Runner {
 
     /// Takes the next event of a document. The events so far and this one are fewer than 2^60. After
     /// `AllocError` the runner may only be dropped.
-    pub fn event<M: Memo>(
-        &mut self,
-        program: &Program,
-        next: Happening<'_>,
-        memo: &mut M,
-    ) -> Result<(), AllocError>
-        requires program { M.states memo.old ≡ program.now.states }
-        requires begun { (given : List Happened) × HasRun M.states M.stands_for memo.old self.old program.now given × (length given + 1 < 2 ^ 60) }
-        ensures ok { OnOk result ((given : List Happened) → HasRun M.states M.stands_for memo.old self.old program.now given →
-            HasRun M.states M.stands_for memo.new self.new program.now (given ++ (event_of next.entry) ∷ [])
-            × Advances M.states M.stands_for M.tells memo.old memo.new
-            (event_steps program.now.states (after_events program.now.states (ground program.now) given) (event_of next.entry)) (held_by (event_of next.entry))) }
-        ensures err { OnErr result (Keeps M.states M.stands_for memo.old memo.new) }
+    pub fn event<M: Memo>(&mut self, next: Happening<'_>, memo: &mut M) -> Result<(), AllocError>
+        requires begun { (given : List Happened) × HasRun M.automata M.stands_for memo.old self.old given × (length given + 1 < 2 ^ 60) }
+        ensures ok { OnOk result ((given : List Happened) → HasRun M.automata M.stands_for memo.old self.old given →
+            HasRun M.automata M.stands_for memo.new self.new (given ++ (event_of next.entry) ∷ [])
+            × Advances M.automata M.stands_for M.tells memo.old memo.new
+            (event_steps (M.automata memo.old).states (after_events (M.automata memo.old).states (ground (M.automata memo.old)) given) (event_of next.entry)) (held_by (event_of next.entry))) }
+        ensures err { OnErr result (Keeps M.automata M.stands_for memo.old memo.new) }
     {
-        self.take(program, next, memo)
+        self.take(next, memo)
     }
 
     // The next event, whatever came before.
-    fn take<M: Memo>(
-        &mut self,
-        program: &Program,
-        next: Happening<'_>,
-        memo: &mut M,
-    ) -> Result<(), AllocError>
-        requires program { M.states memo.old ≡ program.now.states }
-        requires at { (opened : Opened) × (made : ℕ) × IsAt M.states M.stands_for memo.old self.old opened made × (made + 7 < 2 ^ 64) }
-        ensures ok { OnOk result ((opened : Opened) (made : ℕ) → IsAt M.states M.stands_for memo.old self.old opened made →
-            IsAt M.states M.stands_for memo.new self.new (after_event program.now.states opened (event_of next.entry)) (made + length (event_steps program.now.states opened (event_of next.entry)))
-            × Advances M.states M.stands_for M.tells memo.old memo.new (event_steps program.now.states opened (event_of next.entry)) (held_by (event_of next.entry))) }
-        ensures err { OnErr result (Keeps M.states M.stands_for memo.old memo.new) }
+    fn take<M: Memo>(&mut self, next: Happening<'_>, memo: &mut M) -> Result<(), AllocError>
+        requires at { (opened : Opened) × (made : ℕ) × IsAt M.automata M.stands_for memo.old self.old opened made × (made + 7 < 2 ^ 64) }
+        ensures ok { OnOk result ((opened : Opened) (made : ℕ) → IsAt M.automata M.stands_for memo.old self.old opened made →
+            IsAt M.automata M.stands_for memo.new self.new (after_event (M.automata memo.old).states opened (event_of next.entry)) (made + length (event_steps (M.automata memo.old).states opened (event_of next.entry)))
+            × Advances M.automata M.stands_for M.tells memo.old memo.new (event_steps (M.automata memo.old).states opened (event_of next.entry)) (held_by (event_of next.entry))) }
+        ensures err { OnErr result (Keeps M.automata M.stands_for memo.old memo.new) }
     {
         match next {
-            Happening::Start { name } => self.start(memo, program.label_of_element(name)),
-            Happening::Attr { name, value } => {
-                let label = program.label_of_attribute(name);
-                self.leaf(program, memo, label, value, b"")
+            Happening::Start { name } => {
+                let label = memo.program().label_of_element(name);
+                self.start(memo, label)
             }
-            Happening::Text { text } => self.leaf(program, memo, 0, text, text),
-            Happening::End => self.end(program, memo),
+            Happening::Attr { name, value } => {
+                let label = memo.program().label_of_attribute(name);
+                self.leaf(memo, label, value, b"")
+            }
+            Happening::Text { text } => self.leaf(memo, 0, text, text),
+            Happening::End => self.end(memo),
         }
     }
 
     // A leaf with the label, of whose value a text says all, and an attribute nothing.
     fn leaf<M: Memo>(
         &mut self,
-        program: &Program,
         memo: &mut M,
         label: u32,
         value: &[u8],
         said: &[u8],
     ) -> Result<(), AllocError>
-        requires program { M.states memo.old ≡ program.now.states }
-        requires label { IsLabel program.now.states label }
-        requires at { (opened : Opened) × (made : ℕ) × IsAt M.states M.stands_for memo.old self.old opened made × (made + 6 < 2 ^ 64) }
-        ensures ok { OnOk result ((opened : Opened) (made : ℕ) → IsAt M.states M.stands_for memo.old self.old opened made →
-            IsAt M.states M.stands_for memo.new self.new
-            (record { innermost = with_child program.now.states opened.innermost (values_in program.now.states value.now) label said.now; outer = opened.outer })
+        requires label { IsLabel (M.automata memo.old).states label }
+        requires at { (opened : Opened) × (made : ℕ) × IsAt M.automata M.stands_for memo.old self.old opened made × (made + 6 < 2 ^ 64) }
+        ensures ok { OnOk result ((opened : Opened) (made : ℕ) → IsAt M.automata M.stands_for memo.old self.old opened made →
+            IsAt M.automata M.stands_for memo.new self.new
+            (record { innermost = with_child (M.automata memo.old).states opened.innermost (values_in (M.automata memo.old).states value.now) label said.now; outer = opened.outer })
             (made + 6)
-            × Advances M.states M.stands_for M.tells memo.old memo.new
-            (value_steps program.now.states value.now
-            ++ raise_steps program.now.states opened.innermost.needed opened.innermost.gathered (values_in program.now.states value.now) label) []) }
-        ensures err { OnErr result (Keeps M.states M.stands_for memo.old memo.new) }
+            × Advances M.automata M.stands_for M.tells memo.old memo.new
+            (value_steps (M.automata memo.old).states value.now
+            ++ raise_steps (M.automata memo.old).states opened.innermost.needed opened.innermost.gathered (values_in (M.automata memo.old).states value.now) label) []) }
+        ensures err { OnErr result (Keeps M.automata M.stands_for memo.old memo.new) }
     {
-        let set = text_values(program, memo, value)?;
+        let set = text_values(memo, value)?;
         give(memo, &mut self.innermost, &set, label)?;
         self.text.extend_from_slice(said)?;
         self.steps += 6;
@@ -174,12 +148,12 @@ impl Runner {
 
     // The start of an element with the label.
     fn start<M: Memo>(&mut self, memo: &mut M, label: u32) -> Result<(), AllocError>
-        requires label { IsLabel (M.states memo.old) label }
-        requires at { (opened : Opened) × (made : ℕ) × IsAt M.states M.stands_for memo.old self.old opened made × (made + 1 < 2 ^ 64) }
-        ensures ok { OnOk result ((opened : Opened) (made : ℕ) → IsAt M.states M.stands_for memo.old self.old opened made →
-            IsAt M.states M.stands_for memo.new self.new (begun (M.states memo.old) opened label) (made + 1)
-            × Advances M.states M.stands_for M.tells memo.old memo.new (step (M.states memo.old) Push (set_of opened.innermost.needed) (index label) ∷ []) ([] ∷ [])) }
-        ensures err { OnErr result (Keeps M.states M.stands_for memo.old memo.new) }
+        requires label { IsLabel (M.automata memo.old).states label }
+        requires at { (opened : Opened) × (made : ℕ) × IsAt M.automata M.stands_for memo.old self.old opened made × (made + 1 < 2 ^ 64) }
+        ensures ok { OnOk result ((opened : Opened) (made : ℕ) → IsAt M.automata M.stands_for memo.old self.old opened made →
+            IsAt M.automata M.stands_for memo.new self.new (begun (M.automata memo.old).states opened label) (made + 1)
+            × Advances M.automata M.stands_for M.tells memo.old memo.new (step (M.automata memo.old).states Push (set_of opened.innermost.needed) (index label) ∷ []) ([] ∷ [])) }
+        ensures err { OnErr result (Keeps M.automata M.stands_for memo.old memo.new) }
     {
         let needed = push(memo, &self.innermost.needed, label)?;
         let gathered = memo.hold(&self.none)?;
@@ -196,20 +170,19 @@ impl Runner {
     }
 
     // The end of the innermost element.
-    fn end<M: Memo>(&mut self, program: &Program, memo: &mut M) -> Result<(), AllocError>
-        requires program { M.states memo.old ≡ program.now.states }
-        requires at { (opened : Opened) × (made : ℕ) × IsAt M.states M.stands_for memo.old self.old opened made × (made + 7 < 2 ^ 64) }
-        ensures ok { OnOk result ((opened : Opened) (made : ℕ) → IsAt M.states M.stands_for memo.old self.old opened made →
-            IsAt M.states M.stands_for memo.new self.new (after_end program.now.states opened.innermost opened.outer)
-            (made + length (end_steps program.now.states opened.innermost opened.outer))
-            × Advances M.states M.stands_for M.tells memo.old memo.new (end_steps program.now.states opened.innermost opened.outer) []) }
-        ensures err { OnErr result (Keeps M.states M.stands_for memo.old memo.new) }
+    fn end<M: Memo>(&mut self, memo: &mut M) -> Result<(), AllocError>
+        requires at { (opened : Opened) × (made : ℕ) × IsAt M.automata M.stands_for memo.old self.old opened made × (made + 7 < 2 ^ 64) }
+        ensures ok { OnOk result ((opened : Opened) (made : ℕ) → IsAt M.automata M.stands_for memo.old self.old opened made →
+            IsAt M.automata M.stands_for memo.new self.new (after_end (M.automata memo.old).states opened.innermost opened.outer)
+            (made + length (end_steps (M.automata memo.old).states opened.innermost opened.outer))
+            × Advances M.automata M.stands_for M.tells memo.old memo.new (end_steps (M.automata memo.old).states opened.innermost opened.outer) []) }
+        ensures err { OnErr result (Keeps M.automata M.stands_for memo.old memo.new) }
     {
         let Some(mut parent) = self.outer.pop() else {
             return Ok(());
         };
         let text = &self.text[self.innermost.begins..];
-        close(program, memo, &self.innermost, &mut parent, text)?;
+        close(memo, &self.innermost, &mut parent, text)?;
         self.innermost = parent;
         self.steps += 7;
         Ok(())
@@ -217,15 +190,15 @@ impl Runner {
 }
 
 // The document root before the first event.
-fn ground_frame<M: Memo>(memo: &mut M, firsts: &Set, none: &Set) -> Result<Frame, AllocError>
-    requires firsts { AreStates (M.states memo.old) firsts.now }
+fn ground_frame<M: Memo>(memo: &mut M, none: &Set) -> Result<Frame, AllocError>
     requires none { none.now ≡ [] }
-    ensures open { IfOk result (λ frame. IsOpen M.states M.stands_for memo.new frame (record { label = 0; needed = firsts.now; gathered = []; text = [] })) }
+    ensures open { IfOk result (λ frame. IsOpen M.automata M.stands_for memo.new frame (ground (M.automata memo.old)).innermost) }
     ensures begins { IfOk result (λ frame. frame.begins ≡ 0) }
-    ensures held { IfOk result (λ frame. Advances M.states M.stands_for M.tells memo.old memo.new [] (firsts.now ∷ [] ∷ [])) }
-    ensures err { OnErr result (Keeps M.states M.stands_for memo.old memo.new) }
+    ensures held { IfOk result (λ frame. Advances M.automata M.stands_for M.tells memo.old memo.new [] (first_set (M.automata memo.old).firsts ∷ [] ∷ [])) }
+    ensures err { OnErr result (Keeps M.automata M.stands_for memo.old memo.new) }
 {
-    let needed = memo.hold(firsts)?;
+    memo.program().sound();
+    let needed = memo.firsts()?;
     let gathered = memo.hold(none)?;
     Ok(Frame {
         label: 0,

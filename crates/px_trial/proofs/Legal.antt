@@ -1,19 +1,16 @@
 -- What a journal's filters keep.
-use Rattle.std.proofs.Common.{◌≡◌, ◌+◌, ◌<◌, ◌≤◌, ◌∙◌, ℕ, List, [], ◌∷◌, ◌++◌, length, length-append, map, ap, arith, sym, subst}
+use Rattle.std.proofs.Common.{◌≡◌, ◌+◌, ◌≤◌, ◌∙◌, ℕ, Bool, false, refl, List, [], ◌∷◌, ◌++◌, length, length-append, map, ap, arith, sym, subst}
+use Rattle.std.specs.Prelude.{Option, Some, None, is_some}
 use Rattle.std.proofs.lemmas.List.{length-map}
 use Rattle.px_afa.specs.Sound.{AreLive, AreRising}
 use Rattle.px_text.specs.Sets.{Rising}
-use Rattle.px_workload.proofs.Legal.{add-is-legal}
 use Rattle.px_workload.proofs.Standing.{live-behind, one_more}
 use Rattle.px_workload.specs.declared.change.Change.{Change}
-use Rattle.px_workload.specs.declared.change.Change.TheVariants.{Add}
 use Rattle.px_workload.specs.Changes.{change, history}
-use Rattle.px_xpath.specs.declared.filter.Filter.{Filter}
 use Rattle.px_xpath.specs.declared.numbered.Numbered.{Numbered}
 use Rattle.px_xpath.specs.Histories as histories
-use Rattle.px_xpath.specs.Histories.{Subscription, IsLegal, after, live, live_size, size}
+use Rattle.px_xpath.specs.Histories.{Subscription, IsLegal, after, live, live_size}
 use Rattle.px_xpath.specs.Subscribed.{subscriptions}
-use Rattle.px_xpath.specs.Whole as whole
 
 rises : (ids : List ℕ) → Rising ids → AreRising ids
 rises [] h = h
@@ -23,12 +20,14 @@ rises (id ∷ ids) h = (h.1, rises ids h.2)
 pub is_live : (filters : List Subscription) → Rising (map (λ s. s.id) filters) → live_size filters ≤ 500_000 → AreLive filters
 is_live filters rising small = record { ids_rise = rises (map (λ s. s.id) filters) rising; few = small }
 
--- an add that fits
-pub may_add : (before now : List Change) (filter : Filter) → now ≡ before → IsLegal (history before) →
-    live_size (live (history before)) + size (whole.filter filter) ≤ 500_000 → length before < 1_048_575 → IsLegal (history (now ++ Add 0 filter ∷ []))
-may_add before now filter same legal small room =
-    let P : List Change → Type 0 = λ changes. IsLegal (history (changes ++ Add 0 filter ∷ [])) in
-    subst P (sym same) (add-is-legal before 0 filter legal small room)
+-- there is no refusal where it was asked whether there is one
+pub none_is : {A : Type 0} (o : Option A) {asked : Bool} → asked ≡ is_some o → asked ≡ false → o ≡ None
+none_is None e f = refl
+none_is (Some x) e f = let g = sym e ∙ f in cc
+
+-- a change that may come, where the journal has made room
+pub may_come : (before now : List Change) (c : Change) → now ≡ before → IsLegal (history (before ++ c ∷ [])) → IsLegal (history (now ++ c ∷ []))
+may_come before now c same legal = let P : List Change → Type 0 = λ changes. IsLegal (history (changes ++ c ∷ [])) in subst P (sym same) legal
 
 -- the version of a change that came is above the ids before it
 pub comes_next : (before now all : List Change) (filters : List Numbered) (c : Change) (version : ℕ) →

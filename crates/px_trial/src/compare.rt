@@ -6,7 +6,7 @@ ghost use Rattle.px_machine.specs.Machines.{HasRun};
 
 use crate::document::{events_of, ids_by_machine, ids_by_meaning, ids_by_runner};
 use crate::trouble::Trouble;
-use crate::workload::{add, filters};
+use crate::workload::{add, filters, shared};
 use px_afa::Program;
 use px_feed::{Item, Items, Taken};
 use px_io::Source;
@@ -112,25 +112,25 @@ fn compare_all(
         return Ok(());
     }
     let live = filters(alloc, journal)?;
-    let compiled = Compiled::of(alloc, Program::build(alloc, live.as_slice())?)?;
-    compare_each(alloc, &compiled, live.as_slice(), documents, counts)
+    let program = shared(alloc, Program::build(alloc, live.as_slice())?)?;
+    compare_each(alloc, &program, live.as_slice(), documents, counts)
 }
 
 /// Compares over documents, under filters and their program.
 fn compare_each(
     alloc: Global,
-    compiled: &Arc<Compiled>,
+    program: &Arc<Program>,
     filters: &[Numbered],
     documents: &[Doc],
     counts: &mut Counts,
 ) -> Result<(), Trouble> {
-    let program = compiled.program();
-    let mut memo = PrivateMemo::new(alloc, program)?;
-    let mut machine = Machine::bounded(alloc, compiled.clone()?, FEW_BYTES)?;
+    let compiled = Compiled::of(alloc, program.clone()?)?;
+    let mut memo = PrivateMemo::new(alloc, compiled);
+    let mut machine = Machine::bounded(alloc, program.clone()?, FEW_BYTES)?;
     for doc in documents {
         let events = events_of(alloc, doc)?;
         let meaning = ids_by_meaning(alloc, filters, &events)?;
-        let runner = ids_by_runner(alloc, program, &mut memo, &events)?;
+        let runner = ids_by_runner(alloc, &mut memo, &events)?;
         let ids = ids_by_machine(&mut machine, &events)?;
         counts.count(&meaning, &[&runner, &ids], machine.bytes() == 0);
     }

@@ -10,7 +10,6 @@ ghost use Rattle.px_reader.specs.Spelling as spelling;
 ghost use Rattle.px_runner.specs.Running.{HasRun};
 
 use crate::trouble::Trouble;
-use px_afa::Program;
 use px_machine::Machine;
 use px_meaning::holds;
 use px_reader::{Doc, Event, Reader};
@@ -58,37 +57,23 @@ fn take_all(machine: &mut Machine, events: &[Event]) -> Result<(), AllocError>
 }
 
 /// The ids of the filters that hold of a document, by the machine that makes steps.
-pub fn ids_by_runner<M: Memo>(
-    alloc: Global,
-    program: &Program,
-    memo: &mut M,
-    events: &[Event],
-) -> Result<Ids, Trouble>
-    requires program { M.states memo.old ≡ program.now.states }
+pub fn ids_by_runner<M: Memo>(alloc: Global, memo: &mut M, events: &[Event]) -> Result<Ids, Trouble>
     requires tree { (root : Root) × (events.now ≡ spelling.events_of root) }
-    ensures same { OnOk result (M.states memo.new ≡ M.states memo.old) }
 {
-    let runner = run_over(alloc, program, memo, events)?;
-    Ok(runner.finish(alloc, program, memo)?)
+    let runner = run_over(alloc, memo, events)?;
+    Ok(runner.finish(alloc, memo)?)
 }
 
 /// The machine behind the events of a document.
-pub fn run_over<M: Memo>(
-    alloc: Global,
-    program: &Program,
-    memo: &mut M,
-    events: &[Event],
-) -> Result<Runner, Trouble>
-    requires program { M.states memo.old ≡ program.now.states }
-    ensures run { IfOk result (λ runner. HasRun M.states M.stands_for memo.new runner program.now events.now) }
-    ensures same { OnOk result (M.states memo.new ≡ M.states memo.old) }
+pub fn run_over<M: Memo>(alloc: Global, memo: &mut M, events: &[Event]) -> Result<Runner, Trouble>
+    ensures run { IfOk result (λ runner. HasRun M.automata M.stands_for memo.new runner events.now) }
 {
     if events.len() > MOST_EVENTS {
         return Err(Trouble::Feed);
     }
-    let mut runner = Runner::new(alloc, program, memo)?;
+    let mut runner = Runner::new(alloc, memo)?;
     for event in events {
-        runner.event(program, event.seen(), memo)?;
+        runner.event(event.seen(), memo)?;
     }
     Ok(runner)
 }

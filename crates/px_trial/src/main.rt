@@ -11,7 +11,7 @@
 //!
 //! `px_trial times N` adds N generated filters one by one, with a list of those that are live after
 //! each, builds their program, and prints how long that took and how long a thousand calls of each
-//! function on sets of states took.
+//! function on sets of states took, and a thousand documents that match none of the filters.
 //!
 //! A trial that was cut short ends with 2. The tests follow the machine step by step along a run
 //! that was worked out by hand, and over small workloads whose ids are known.
@@ -20,6 +20,7 @@
 mod compare;
 mod document;
 mod operands;
+mod quiet;
 mod read;
 #[cfg(test)]
 mod tests;

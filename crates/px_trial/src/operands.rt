@@ -1,7 +1,6 @@
 //! What the timed functions are called with.
 
-use px_afa::Program;
-use px_prune::first;
+use px_prune::Compiled;
 use px_step::{add, pop, value_number, value_text};
 use px_text::Set;
 use std::alloc::{AllocError, Global};
@@ -37,7 +36,8 @@ pub struct Operands {
 
 impl Operands {
     /// The operands for a program.
-    pub fn of(alloc: Global, program: &Program) -> Result<Operands, AllocError> {
+    pub fn of(alloc: Global, compiled: &Compiled) -> Result<Operands, AllocError> {
+        let program = compiled.program();
         let class = program.number_class(NUMBER);
         let label = program.label_of_element(ELEMENT);
         let texts = value_text(alloc, program, 0)?;
@@ -45,7 +45,7 @@ impl Operands {
         let values = add(alloc, &texts, &numbers)?;
         let inner = pop(alloc, program, &values, TEXT)?;
         let parent = pop(alloc, program, &inner, label)?;
-        let firsts = first(alloc, program)?;
+        let firsts = compiled.firsts().clone()?;
         Ok(Operands {
             class,
             label,

@@ -8,9 +8,9 @@ ghost use Rattle.px_reader.specs.Spelling as spelling;
 
 use crate::document::{events_of, run_over};
 use crate::trouble::Trouble;
-use crate::workload::{add as add_filter, filters};
+use crate::workload::{add as add_filter, filters, shared};
 use px_afa::{Body, Program, State};
-use px_prune::{Needs, first, push};
+use px_prune::{Compiled, push};
 use px_reader::{Doc, Event};
 use px_runner::{Memo, PrivateMemo};
 use px_step::{accept, add};
@@ -18,6 +18,7 @@ use px_text::{Bytes, Decimal, Ids, Set, Words};
 use px_workload::{Change, Journal};
 use px_xpath::{Axis, Relation, Test, Value};
 use std::alloc::{AllocError, Global};
+use std::sync::Arc;
 use std::test::Fail;
 
 mod steps;
@@ -47,6 +48,12 @@ fn program_of(alloc: Global, texts: &[&[u8]]) -> Result<Program, Trouble> {
     Ok(Program::build(alloc, live.as_slice())?)
 }
 
+/// The same, compiled.
+fn compiled_of(alloc: Global, texts: &[&[u8]]) -> Result<Arc<Compiled>, Trouble> {
+    let program = program_of(alloc, texts)?;
+    Ok(Compiled::of(alloc, shared(alloc, program)?)?)
+}
+
 /// The program of two equal filters with the ids 1 and 3; the filter between them was dropped.
 fn program_of_equals(alloc: Global) -> Result<Program, Trouble> {
     let mut journal = Journal::new(alloc);
@@ -60,11 +67,12 @@ fn program_of_equals(alloc: Global) -> Result<Program, Trouble> {
 
 /// Drops a filter, which is live.
 fn drop_out(journal: &mut Journal, id: u32) -> Result<(), Trouble> {
-    journal.reserve()?;
-    if !journal.is_live(id) || journal.version() >= 1_048_575 {
+    let change = Change::Drop { who: 0, id };
+    if journal.refusal(&change).is_some() {
         return Err(Trouble::Full);
     }
-    journal.append(Change::Drop { who: 0, id });
+    journal.reserve()?;
+    journal.append(change);
     Ok(())
 }
 
@@ -82,10 +90,9 @@ fn accepts(
 
 /// The machine at the end of a document under filters, with a memo of its own.
 fn judged(alloc: Global, texts: &[&[u8]], document: &[u8]) -> Result<Outcome, Trouble> {
-    let program = program_of(alloc, texts)?;
     let events = events_in(alloc, document)?;
-    let mut memo = PrivateMemo::new(alloc, &program)?;
-    judged_by(alloc, &program, &mut memo, &events)
+    let mut memo = PrivateMemo::new(alloc, compiled_of(alloc, texts)?);
+    judged_by(alloc, &mut memo, &events)
 }
 
 /// The events of the document that bytes spell.
@@ -97,18 +104,12 @@ fn events_in(alloc: Global, document: &[u8]) -> Result<Vec<Event>, Trouble>
 }
 
 /// The machine at the end of the events of a document.
-fn judged_by<M: Memo>(
-    alloc: Global,
-    program: &Program,
-    memo: &mut M,
-    events: &[Event],
-) -> Result<Outcome, Trouble>
-    requires program { M.states memo.old ≡ program.now.states }
+fn judged_by<M: Memo>(alloc: Global, memo: &mut M, events: &[Event]) -> Result<Outcome, Trouble>
     requires tree { (root : Root) × (events.now ≡ spelling.events_of root) }
 {
-    let runner = run_over(alloc, program, memo, events)?;
+    let runner = run_over(alloc, memo, events)?;
     let steps = runner.steps();
-    let ids = runner.finish(alloc, program, memo)?;
+    let ids = runner.finish(alloc, memo)?;
     Ok(Outcome { ids, steps })
 }
 
@@ -140,20 +141,17 @@ fn accepts_state(
     Ok(accept(alloc, program, &set)?.as_slice() == ids)
 }
 
-/// What is needed inside an element with this label.
-fn pushed(alloc: Global, program: &Program, need: &Set, label: u32) -> Result<Set, AllocError> {
-    let needs = Needs::build(alloc, program)?;
-    push(alloc, program, &needs, need, label)
-}
+/// Threads may share a value of this type.
+fn is_shared<T: Send + Sync>(_shared: &T) {}
 
 /// Whether these are the need sets along the worked run.
-fn has_needs(alloc: Global, program: &Program) -> Result<bool, AllocError> {
-    let ground = first(alloc, program)?;
-    let outer = pushed(alloc, program, &ground, 5)?;
-    let b = pushed(alloc, program, &outer, 3)?;
-    let inner = pushed(alloc, program, &outer, 5)?;
+fn has_needs(alloc: Global, compiled: &Compiled) -> Result<bool, AllocError> {
+    let ground = compiled.firsts();
+    let outer = push(alloc, compiled, ground, 5)?;
+    let b = push(alloc, compiled, &outer, 3)?;
+    let inner = push(alloc, compiled, &outer, 5)?;
     Ok(
-        are(&ground, &[7])
+        are(ground, &[7])
             && are(&outer, &[2, 5, 7])
             && are(&b, &[1, 5, 7])
             && are(&inner, &[2, 4, 5, 7]),
@@ -239,8 +237,9 @@ fn the_worked_filter_has_its_labels_and_classes(rt: HostRuntime) -> Result<(), F
 #[test]
 fn the_worked_run_needs_its_sets(rt: HostRuntime) -> Result<(), Fail> {
     let alloc = rt.alloc();
-    let program = program_of(alloc, &[WORKED])?;
-    assert!(rt; has_needs(alloc, &program)?);
+    let compiled = compiled_of(alloc, &[WORKED])?;
+    is_shared(&compiled);
+    assert!(rt; has_needs(alloc, &compiled)?);
     Ok(())
 }
 

@@ -1,10 +1,10 @@
 //! The filters of a trial.
 
-ghost use Rattle.std.specs.Prelude.{◌≡◌, ◌+◌, ◌<◌, ◌≤◌, ◌↔◌, ◌++◌, ◌∷◌, [], length, Err, IsTrue, IfOk, OnErr, OnOk};
+ghost use Rattle.std.specs.Prelude.{◌≡◌, ◌++◌, ◌∷◌, [], Err, None, IfOk, OnErr, OnOk};
 ghost use Rattle.px_afa.specs.Sound.{AreLive};
-ghost use Rattle.px_trial.specs.Room.{HasRoom};
 ghost use Rattle.px_workload.specs.Changes as changes;
 ghost use Rattle.px_workload.specs.declared.change.Change.TheVariants.{Add};
+ghost use Rattle.px_workload.specs.Refusals.{refusal};
 ghost use Rattle.px_xpath.specs.declared.filter.Filter.{Filter as Parsed};
 ghost use Rattle.px_xpath.specs.Faults.{IsText};
 ghost use Rattle.px_xpath.specs.Histories as histories;
@@ -12,15 +12,11 @@ ghost use Rattle.px_xpath.specs.Subscribed.{subscriptions};
 ghost use Rattle.px_xpath.specs.Whole.{filter as way_of};
 
 use crate::trouble::Trouble;
+use px_afa::Program;
 use px_workload::{Change, Journal, Live, live_filters_are_in_order};
-use px_xpath::{Filter, ParseFault, parse, size};
-use std::alloc::Global;
-
-/// What the live filters may measure together.
-const MOST_SIZE: u64 = 500_000;
-
-/// The most changes of one history.
-const MOST_CHANGES: u32 = 1_048_575;
+use px_xpath::{Filter, ParseFault, parse};
+use std::alloc::{AllocError, Global};
+use std::sync::Arc;
 
 /// Adds the filter that a text writes, and changes nothing where that fails.
 pub fn add(alloc: Global, journal: &mut Journal, text: &[u8]) -> Result<(), Trouble>
@@ -37,15 +33,16 @@ pub fn add(alloc: Global, journal: &mut Journal, text: &[u8]) -> Result<(), Trou
 /// Adds a filter, where it fits, and changes nothing where it does not.
 fn add_filter(journal: &mut Journal, filter: Filter) -> Result<(), Trouble>
     ensures ok { OnOk result (journal.new.changes ≡ journal.old.changes ++ Add 0 filter ∷ []) }
-    ensures full { result ≡ Err Trouble.Full → HasRoom journal.old.changes filter → ⊥ }
+    ensures full { result ≡ Err Trouble.Full → refusal (changes.history journal.old.changes) (changes.change (Add 0 filter)) ≡ None → ⊥ }
     ensures err { OnErr result (journal.new.changes ≡ journal.old.changes) }
 {
-    if has_room(journal, &filter) {
-        journal.reserve()?;
-        journal.append(Change::Add { who: 0, filter });
-        return Ok(());
+    let change = Change::Add { who: 0, filter };
+    if journal.refusal(&change).is_some() {
+        return Err(Trouble::Full);
     }
-    Err(Trouble::Full)
+    journal.reserve()?;
+    journal.append(change);
+    Ok(())
 }
 
 /// Adds a filter to a journal and to the list of its live filters, where it fits.
@@ -53,30 +50,17 @@ pub fn add_to_both(journal: &mut Journal, live: &mut Live, filter: Filter) -> Re
     requires lists { subscriptions live.old.filters ≡ histories.live (changes.history journal.old.changes) }
     ensures lists { OnOk result (subscriptions live.new.filters ≡ histories.live (changes.history journal.new.changes)) }
 {
-    if !has_room(journal, &filter) {
+    let change = Change::Add { who: 0, filter };
+    if journal.refusal(&change).is_some() {
         return Err(Trouble::Full);
     }
     journal.reserve()?;
     live.reserve()?;
-    let change = Change::Add { who: 0, filter };
     let shared = change.share()?;
     live_filters_are_in_order();
     let version = journal.append(change);
     live.take(version, shared);
     Ok(())
-}
-
-/// Whether the filter may be added: the changes are not too many, and the live filters with it are
-/// small enough for a program. The journal tests neither, and requires both; and this stands apart
-/// from the add, so that its proof has the two limits as one fact.
-fn has_room(journal: &Journal, filter: &Filter) -> bool
-    ensures room { IsTrue result ↔ HasRoom journal.now.changes filter.now }
-    ensures legal { histories.IsLegal (changes.history journal.now.changes) }
-{
-    if journal.version() >= MOST_CHANGES {
-        return false;
-    }
-    u64::from(journal.live_size()) + u64::from(size(filter)) <= MOST_SIZE
 }
 
 /// The live filters, of which a program can be built.
@@ -87,4 +71,9 @@ pub fn filters(alloc: Global, journal: &Journal) -> Result<Live, Trouble>
     live_filters_are_in_order();
     let _version = journal.version();
     Ok(journal.snapshot(alloc)?)
+}
+
+/// A program as machines share it.
+pub fn shared(alloc: Global, program: Program) -> Result<Arc<Program>, AllocError> {
+    Ok(Arc::new(alloc, program)?)
 }

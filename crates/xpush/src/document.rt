@@ -13,9 +13,9 @@ ghost use Rattle.xpush.specs.Documents.{Reads, IsAtEnd, GivesIds, GivesFault};
 
 use crate::running::{ids_behind, take_all};
 use crate::stop::Stop;
+use px_afa::Program;
 use px_io::{ReadAnswer, Source};
 use px_machine::Machine;
-use px_prune::Compiled;
 use px_reader::{Event, Reader};
 use px_text::Ids;
 use std::alloc::{AllocError, Global};
@@ -31,18 +31,14 @@ const MOST_READS: u32 = 16_777_217;
 /// The ids of the program's filters that the document left in the source matches. The source is
 /// read to its end, or to where the document's fault shows. The events of each piece are given to
 /// the machine as they come.
-pub fn ids_in<S: Source>(
-    alloc: Global,
-    source: &mut S,
-    compiled: Arc<Compiled>,
-) -> Result<Ids, Stop>
-    ensures ids { IfOk result (λ ids. GivesIds (arc_value compiled) (S.left source.old) (S.left source.new) ids) }
+pub fn ids_in<S: Source>(alloc: Global, source: &mut S, program: Arc<Program>) -> Result<Ids, Stop>
+    ensures ids { IfOk result (λ ids. GivesIds (arc_value program) (S.left source.old) (S.left source.new) ids) }
     ensures fault { (fault : DocFault) → result ≡ Err (Stop.Doc fault) → GivesFault (S.left source.old) (S.left source.new) fault }
     ensures failed { result ≡ Err Stop.Source → Rose (S.faults source.old) (S.faults source.new) }
     ensures never_falls { S.faults source.old ≤ S.faults source.new }
 {
     let mut reader = Reader::new(alloc)?;
-    let mut machine = Machine::new(alloc, compiled)?;
+    let mut machine = Machine::new(alloc, program)?;
     let mut events = Vec::new(alloc);
     let mut storage = zeros(alloc, BUFFER)?;
     let buffer = storage.as_mut_slice();

@@ -1,12 +1,15 @@
 //! The command `match`: whether a document matches a filter.
 
-ghost use Rattle.std.specs.Prelude.{◌≡◌, ◌≤◌, IfOk, Err, IsTrue, if◌then◌else◌};
+ghost use Rattle.std.specs.Prelude.{◌≡◌, ◌≤◌, ◌∷◌, [], IfOk, Err, IsTrue, if◌then◌else◌};
+ghost use Rattle.std.specs.Arc.{arc_value};
 ghost use Rattle.px_feed.specs.Matches.{status_behind as status_of_line};
 ghost use Rattle.px_io.specs.Faults.{Rose};
 ghost use Rattle.px_reader.specs.declared.fault.DocFault.{DocFault};
 ghost use Rattle.px_text.specs.Numbers.{is_empty};
 ghost use Rattle.px_xpath.specs.Histories.{size};
+ghost use Rattle.px_xpath.specs.Subscribed.{subscriptions};
 ghost use Rattle.px_xpath.specs.Whole.{filter as way_of};
+ghost use Rattle.px_afa.specs.Building.{automata};
 ghost use Rattle.xpush.specs.Answers.{IsLineFor, IsLineUnder, Matched, WritesFront, is_finished, is_cut_short};
 ghost use Rattle.xpush.specs.Documents.{GivesFault, GivesMatch};
 ghost use Rattle.xpush.specs.Forms.{Matches};
@@ -18,10 +21,10 @@ use crate::stop::{Cut, Stop};
 use px_afa::Program;
 use px_feed::{FeedFault, FeedKind, OutLine, Status, line_of};
 use px_io::{Sink, Source};
-use px_prune::Compiled;
 use px_text::Ids;
 use px_xpath::{Filter, Numbered, ParseFault, parse};
-use std::alloc::Global;
+use std::alloc::{AllocError, Global};
+use std::sync::Arc;
 
 /// Writes the line for a filter's text and the document that is left in the source.
 pub fn match_document<S: Source, K: Sink>(
@@ -105,10 +108,18 @@ fn ids_under<S: Source>(alloc: Global, filter: Filter, source: &mut S) -> Result
     ensures failed { result ≡ Err Stop.Source → Rose (S.faults source.old) (S.faults source.new) }
     ensures never_falls { S.faults source.old ≤ S.faults source.new }
 {
+    let program = program_of(alloc, filter)?;
+    ids_in(alloc, source, program)
+}
+
+/// The program of the filter alone, under the id 1.
+fn program_of(alloc: Global, filter: Filter) -> Result<Arc<Program>, AllocError>
+    requires small { size (way_of filter) ≤ 500_000 }
+    ensures program { IfOk result (λ program. arc_value program ≡ automata (subscriptions (record { id = 1; filter = filter } ∷ []))) }
+{
     let only = [Numbered { id: 1, filter }];
     let program = Program::build(alloc, &only)?;
-    let compiled = Compiled::of(alloc, program)?;
-    ids_in(alloc, source, compiled)
+    Ok(Arc::new(alloc, program)?)
 }
 
 /// The line for a document whose reading was stopped.

@@ -19,7 +19,6 @@ use px_afa::Program;
 use px_feed::{Item, Items, OutLine, Status, Taken};
 use px_io::{Sink, Source};
 use px_machine::Machine;
-use px_prune::Compiled;
 use px_reader::Doc;
 use px_text::Bytes;
 use px_workload::{Journal, live_filters_are_in_order};
@@ -200,10 +199,10 @@ impl Serving {
         ensures source_counts { S.faults source.old ≤ S.faults source.new }
         ensures sink_counts { K.faults sink.old ≤ K.faults sink.new }
     {
-        let Ok(compiled) = self.compiled() else {
+        let Ok(program) = self.program() else {
             return Err(Status::Memory);
         };
-        let Ok(mut machine) = Machine::new(self.alloc, compiled) else {
+        let Ok(mut machine) = Machine::new(self.alloc, program) else {
             return Err(Status::Memory);
         };
         self.filter_by(&mut machine, doc, source, sink)
@@ -295,16 +294,16 @@ impl Serving {
         })
     }
 
-    /// The live filters, compiled.
-    fn compiled(&self) -> Result<Arc<Compiled>, AllocError>
-        ensures compiled { IfOk result (λ compiled. IsCompiled (arc_value compiled) self.now.journal.changes) }
+    /// The program of the live filters.
+    fn program(&self) -> Result<Arc<Program>, AllocError>
+        ensures compiled { IfOk result (λ program. IsCompiled (arc_value program) self.now.journal.changes) }
     {
         // The history is legal, so the ids rise and the filters are small enough together.
         let _version = self.journal.version();
         live_filters_are_in_order();
         let live = self.journal.snapshot(self.alloc)?;
         let program = Program::build(self.alloc, live.as_slice())?;
-        Compiled::of(self.alloc, program)
+        Ok(Arc::new(self.alloc, program)?)
     }
 
     /// Says the line for the item that was taken last, if there is memory for one, and takes the

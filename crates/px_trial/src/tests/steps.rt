@@ -1,12 +1,8 @@
 //! The steps of the machine along the worked run, one call for each.
 
-ghost use Rattle.std.specs.Prelude.{◌≡◌};
-ghost use Rattle.px_prune.specs.Needing.{needs_of};
-
-use super::{WORKED, program_of, set_of};
+use super::{WORKED, compiled_of, set_of};
 use crate::trouble::Trouble;
-use px_afa::Program;
-use px_prune::{Needs, push};
+use px_prune::{Compiled, push};
 use px_step::{add, mask, pop, value_number, value_text};
 use px_text::Set;
 use std::alloc::Global;
@@ -71,16 +67,15 @@ static STEPS: [(Call, &[u32]); 36] = [
 ];
 
 /// What a call answers.
-fn answer_of(alloc: Global, program: &Program, needs: &Needs, call: &Call) -> Result<Set, Trouble>
-    requires needs { needs.now ≡ needs_of program.now.states }
-{
+fn answer_of(alloc: Global, compiled: &Compiled, call: &Call) -> Result<Set, Trouble> {
+    let program = compiled.program();
     let set = match call {
         Call::ValueText(class) => value_text(alloc, program, *class)?,
         Call::ValueNumber(class) => value_number(alloc, program, *class)?,
         Call::Pop(set, label) => pop(alloc, program, &set_of(alloc, set)?, *label)?,
         Call::Add(a, b) => add(alloc, &set_of(alloc, a)?, &set_of(alloc, b)?)?,
         Call::Mask(a, b) => mask(alloc, &set_of(alloc, a)?, &set_of(alloc, b)?)?,
-        Call::Push(need, label) => push(alloc, program, needs, &set_of(alloc, need)?, *label)?,
+        Call::Push(need, label) => push(alloc, compiled, &set_of(alloc, need)?, *label)?,
     };
     Ok(set)
 }
@@ -88,12 +83,11 @@ fn answer_of(alloc: Global, program: &Program, needs: &Needs, call: &Call) -> Re
 /// Whether each of some steps has its answer.
 fn have_answers(
     alloc: Global,
-    program: &Program,
+    compiled: &Compiled,
     steps: &[(Call, &[u32])],
 ) -> Result<bool, Trouble> {
-    let needs = Needs::build(alloc, program)?;
     for (call, answer) in steps {
-        if answer_of(alloc, program, &needs, call)?.as_slice() != *answer {
+        if answer_of(alloc, compiled, call)?.as_slice() != *answer {
             return Ok(false);
         }
     }
@@ -103,7 +97,7 @@ fn have_answers(
 #[test]
 fn each_step_of_the_worked_run_has_its_answer(rt: HostRuntime) -> Result<(), Fail> {
     let alloc = rt.alloc();
-    let program = program_of(alloc, &[WORKED])?;
-    assert!(rt; have_answers(alloc, &program, &STEPS)?);
+    let compiled = compiled_of(alloc, &[WORKED])?;
+    assert!(rt; have_answers(alloc, &compiled, &STEPS)?);
     Ok(())
 }

@@ -5,4 +5,4 @@ use Rattle.px_prune.specs.Needing.{is_met_need, is_lasting_need}
 use Rattle.px_prune.proofs.pushing.gathered.Given as goal
 
 abbrev pub invariant-loop-p : goal.invariant-loop-p
-invariant-loop-p l = (k : ℕ) → has l.inside.items k ≡ list_any (λ p. is_met_need l.program.states l.label p k || is_lasting_need l.program.states l.label p k) (take l.p-index l.p-items)
+invariant-loop-p l = (k : ℕ) → has l.inside.items k ≡ list_any (λ p. is_met_need l.compiled.states l.label p k || is_lasting_need l.compiled.states l.label p k) (take l.p-index l.p-items)

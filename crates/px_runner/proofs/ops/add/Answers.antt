@@ -10,5 +10,5 @@ step-requires g c =
 
 pub returns-clause-ok : goal.returns-clause-ok
 returns-clause-ok g c =
-    sets_made g.M.Memo.states g.M.Memo.stands_for g.M.Memo.tells c.args.memo.now c.step.new.self c.step.result c.args.a.now c.args.b.now Add
+    sets_made g.M.Memo.automata g.M.Memo.stands_for g.M.Memo.tells c.args.memo.now c.step.new.self c.step.result c.args.a.now c.args.b.now Add
     (λ x y. tt) (λ x y p q. (p, q)) c.step.ensures.ok

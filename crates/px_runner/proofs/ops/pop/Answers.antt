@@ -11,5 +11,5 @@ step-requires g c =
 
 pub returns-clause-ok : goal.returns-clause-ok
 returns-clause-ok g c =
-    label_made g.M.Memo.states g.M.Memo.stands_for g.M.Memo.tells c.args.memo.now c.step.new.self c.step.result c.args.set.now c.args.label Pop
+    label_made g.M.Memo.automata g.M.Memo.stands_for g.M.Memo.tells c.args.memo.now c.step.new.self c.step.result c.args.set.now c.args.label Pop
     (λ x. tt) (λ x h. (h, c.requires.label)) c.step.ensures.ok

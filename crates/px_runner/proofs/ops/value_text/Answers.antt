@@ -9,4 +9,4 @@ step-requires g c = (index 0, index c.args.class, record { first = refl; second 
 
 pub returns-clause-ok : goal.returns-clause-ok
 returns-clause-ok g c =
-    class_made g.M.Memo.states g.M.Memo.stands_for g.M.Memo.tells c.args.memo.now c.step.new.self c.step.result c.args.class TextClass refl c.requires c.step.ensures.ok
+    class_made g.M.Memo.automata g.M.Memo.stands_for g.M.Memo.tells c.args.memo.now c.step.new.self c.step.result c.args.class TextClass refl c.requires c.step.ensures.ok

@@ -24,18 +24,18 @@ give-requires-clause-label g c =
     let one = c.in_ok-values.ensures.ok in
     let two = c.in_ok-set.ensures.ok child.0.gathered _ (holds_on one.advances.keeps child.1.gathered) one.holds in
     let is = is_open_on (keeps_on one.advances.keeps two.advances.keeps) child.1 in
-    subst (λ l. IsLabel (g.M.Memo.states c.add.new.memo) l) (sym is.label) is.known
+    subst (λ l. IsLabel (g.M.Memo.automata c.add.new.memo).states l) (sym is.label) is.known
 
 pub returns-clause-ok : goal.returns-clause-ok
 returns-clause-ok g c =
-    close_ok g.M.Memo.states g.M.Memo.stands_for g.M.Memo.tells c.args.memo.now c.text_values.new.memo c.add.new.memo c.give.new.memo c.give.result
-    c.args.child.now c.args.parent.now c.give.new.frame c.in_ok-values.values c.in_ok-set.set c.args.program.now.states c.args.text.now
-    c.requires.program c.in_ok-values.ensures.ok c.in_ok-set.ensures.ok c.give.ensures.ok
+    close_ok g.M.Memo.automata g.M.Memo.stands_for g.M.Memo.tells c.args.memo.now c.text_values.new.memo c.add.new.memo c.give.new.memo c.give.result
+    c.args.child.now c.args.parent.now c.give.new.frame c.in_ok-values.values c.in_ok-set.set c.args.text.now
+    c.in_ok-values.ensures.ok c.in_ok-set.ensures.ok c.give.ensures.ok
 
 pub returns-clause-err : goal.returns-clause-err
 returns-clause-err g c =
     let child = c.requires.child in
     let one = c.in_ok-values.ensures.ok in
     let two = c.in_ok-set.ensures.ok child.0.gathered _ (holds_on one.advances.keeps child.1.gathered) one.holds in
-    err_on g.M.Memo.states g.M.Memo.stands_for c.args.memo.now c.add.new.memo c.give.new.memo c.give.result
+    err_on g.M.Memo.automata g.M.Memo.stands_for c.args.memo.now c.add.new.memo c.give.new.memo c.give.result
     (keeps_on one.advances.keeps two.advances.keeps) c.give.ensures.err

@@ -11,7 +11,7 @@ add-requires g c =
 
 pub returns-clause-ok : goal.returns-clause-ok
 returns-clause-ok g c =
-    raise_ok g.M.Memo.states g.M.Memo.stands_for g.M.Memo.tells c.args.memo.now c.pop.new.memo c.mask.new.memo c.add.new.memo c.add.result
+    raise_ok g.M.Memo.automata g.M.Memo.stands_for g.M.Memo.tells c.args.memo.now c.pop.new.memo c.mask.new.memo c.add.new.memo c.add.result
     c.in_ok-popped.popped c.in_ok-masked.masked c.args.needed.now c.args.gathered.now c.args.set.now c.args.label
     c.in_ok-popped.ensures.ok c.in_ok-masked.ensures.ok c.add.ensures.ok
 
@@ -20,5 +20,5 @@ returns-clause-err g c =
     let r = c.requires.sets in
     let one = c.in_ok-popped.ensures.ok r.2 r.5 in
     let two = c.in_ok-masked.ensures.ok _ r.0 one.holds (holds_on one.advances.keeps r.3) in
-    err_on g.M.Memo.states g.M.Memo.stands_for c.args.memo.now c.mask.new.memo c.add.new.memo c.add.result
+    err_on g.M.Memo.automata g.M.Memo.stands_for c.args.memo.now c.mask.new.memo c.add.new.memo c.add.result
     (keeps_on one.advances.keeps two.advances.keeps) c.add.ensures.err

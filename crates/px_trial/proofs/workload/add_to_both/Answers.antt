@@ -3,20 +3,18 @@ use Rattle.std.proofs.Common.{◌∙◌, ap}
 use Rattle.px_workload.specs.Changes.{change}
 use Rattle.px_workload.specs.declared.change.Change.TheVariants.{Add}
 use Rattle.px_xpath.specs.Subscribed.{subscriptions}
-use Rattle.px_trial.proofs.Legal.{comes_next, may_add, stays_listed}
+use Rattle.px_trial.proofs.Legal.{comes_next, may_come, none_is, stays_listed}
 use Rattle.px_trial.proofs.workload.add_to_both.Goals as goal
 
 pub append-version-requires-clause-legal : goal.append-version-requires-clause-legal
 append-version-requires-clause-legal c =
-    let room = c.has_room.ensures.room.0 c.if-not-has_room.false in
-    may_add _ _ c.args.filter c.reserve.ensures.same c.has_room.ensures.legal room.small room.version
+    may_come _ _ (Add 0 c.args.filter) c.reserve.ensures.same (c.refusal.ensures.legal (none_is c.refusal.result c.is_some.ensures c.if-is_some.false))
 
 pub take-requires-clause-next : goal.take-requires-clause-next
 take-requires-clause-next c =
-    let room = c.has_room.ensures.room.0 c.if-not-has_room.false in
     comes_next c.args.journal.now.changes c.reserve.new.self.changes c.append-version.new.self.changes c.reserve-2.new.self.filters (Add 0 c.args.filter) c.append-version.result
     c.live_filters_are_in_order.ensures.next
-    (may_add _ _ c.args.filter c.reserve.ensures.same c.has_room.ensures.legal room.small room.version)
+    (may_come _ _ (Add 0 c.args.filter) c.reserve.ensures.same (c.refusal.ensures.legal (none_is c.refusal.result c.is_some.ensures c.if-is_some.false)))
     c.reserve.ensures.same c.append-version.ensures.accepted c.append-version.ensures.version (ap subscriptions c.reserve-2.ensures.same ∙ c.requires.lists)
 
 pub returns : goal.returns

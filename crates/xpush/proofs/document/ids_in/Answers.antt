@@ -9,13 +9,13 @@ use Rattle.xpush.proofs.Reading.{read_all}
 use Rattle.xpush.proofs.document.ids_in.Goals as goal
 
 pub take_all-requires : goal.take_all-requires
-take_all-requires g c = let run = c.loop.invariant.run in record { begun = ((arc_value c.args.compiled), run.0, run.2) }
+take_all-requires g c = let run = c.loop.invariant.run in record { begun = ((arc_value c.args.program), run.0, run.2) }
 
 pub finish-requires : goal.finish-requires
 finish-requires g c =
     let run = c.loop.invariant.run in
     let end = c.in-Ok-true.ensures.end (ap Ok c.in-Ok-true.field-0-test) in
-    let r = read_all _ _ _ _ _ _ _ run.1 end in record { run = ((arc_value c.args.compiled), r.bytes, run.0, r.read, run.2) }
+    let r = read_all _ _ _ _ _ _ _ run.1 end in record { run = ((arc_value c.args.program), r.bytes, run.0, r.read, run.2) }
 
 pub returns-in-Ok-true-clause-ids : goal.returns-in-Ok-true-clause-ids
 returns-in-Ok-true-clause-ids g c =
@@ -36,9 +36,9 @@ pub loop-preserved : goal.loop-preserved
 loop-preserved g c =
     let run = c.loop.invariant.run in
     let on = c.in-Ok-false.ensures.more _ _ run.0 run.1 (ap Ok c.in-Ok-false.field-0-test) in
-    let P : List Event → Type 0 = λ events. HasRun c.take_all.new.machine (arc_value c.args.compiled) (run.0 ++ events) in
+    let P : List Event → Type 0 = λ events. HasRun c.take_all.new.machine (arc_value c.args.program) (run.0 ++ events) in
     record {
-      run = (_, on.0, subst P c.as_slice.ensures.value (c.in_ok-take_all-in-Ok-false.ensures.ok (arc_value c.args.compiled) run.0 run.2));
+      run = (_, on.0, subst P c.as_slice.ensures.value (c.in_ok-take_all-in-Ok-false.ensures.ok (arc_value c.args.program) run.0 run.2));
       never_falls = omega (arith, c.loop.invariant.never_falls, c.in-Ok-false.ensures.never_falls);
       room = omega (arith, c.loop.invariant.room);
     }

@@ -8,7 +8,7 @@ use Rattle.xpush.proofs.document.ids_in.Given as goal
 
 abbrev pub invariant-loop : goal.invariant-loop
 invariant-loop g l = record {
-  run : (given : List Event) × Reads l.counter (g.S.Source.left l.initial.source) (g.S.Source.left l.source) l.reader given × HasRun l.machine (arc_value l.fn.compiled) given;
+  run : (given : List Event) × Reads l.counter (g.S.Source.left l.initial.source) (g.S.Source.left l.source) l.reader given × HasRun l.machine (arc_value l.fn.program) given;
   never_falls : g.S.Source.faults l.initial.source ≤ g.S.Source.faults l.source;
   room : 0 < length l.buffer;
 }

@@ -8,6 +8,6 @@ pub invariant_of-self : goal.invariant_of-self
 invariant_of-self c = (
   c.self.invariant.0,
   c.self.invariant.1,
-  true-gifts-more (arc_value c.self.inside.compiled).states c.self.inside.sets.lists c.self.inside.lists.lists c.self.inside.gifts c.tell.new.self c.args.list c.args.label c.args.n c.self.invariant.2
+  true-gifts-more (arc_value c.self.inside.program).states c.self.inside.sets.lists c.self.inside.lists.lists c.self.inside.gifts c.tell.new.self c.args.list c.args.label c.args.n c.self.invariant.2
       (subst (λ (k : Known). IsListGift k.automata.states k.sets k.lists c.args.list c.args.label c.args.n) (sym c.self.view_is) c.requires.gift) c.tell.ensures.only,
 )

@@ -8,12 +8,12 @@ returns-in_err-extend_from_slice-clause-err g c =
     let at = c.requires.at in
     let one = c.in_ok-set.ensures.ok in
     let two = c.in_ok-give.ensures.ok at.0.innermost _ [] (is_open_on one.advances.keeps at.2.inner) one.holds in
-    kept_err g.M.Memo.states g.M.Memo.stands_for c.args.memo.now c.give.new.memo c.from_residual-in_err-extend_from_slice.result
+    kept_err g.M.Memo.automata g.M.Memo.stands_for c.args.memo.now c.give.new.memo c.from_residual-in_err-extend_from_slice.result
     (keeps_on one.advances.keeps two.1.keeps)
 
 pub returns-clause-ok : goal.returns-clause-ok
 returns-clause-ok g c =
-    leaf_on g.M.Memo.states g.M.Memo.stands_for g.M.Memo.tells c.args.memo.now c.text_values.new.memo c.give.new.memo c.args.self.now
+    leaf_on g.M.Memo.automata g.M.Memo.stands_for g.M.Memo.tells c.args.memo.now c.text_values.new.memo c.give.new.memo c.args.self.now
     (record { innermost = c.give.new.frame; outer = c.args.self.now.outer; text = c.extend_from_slice.new.self; none = c.args.self.now.none; steps = c.args.self.now.steps + 6 })
-    c.args.program.now.states c.in_ok-set.set c.args.label c.args.value.now c.args.said.now
-    c.requires.program c.in_ok-set.ensures.ok c.in_ok-give.ensures.ok c.in_ok-give.ensures.begins c.in_ok-extend_from_slice.ensures.items refl refl refl
+    c.in_ok-set.set c.args.label c.args.value.now c.args.said.now
+    c.in_ok-set.ensures.ok c.in_ok-give.ensures.ok c.in_ok-give.ensures.begins c.in_ok-extend_from_slice.ensures.items refl refl refl

@@ -1,7 +1,7 @@
 -- The live filters are in order and small enough.
 use Rattle.px_workload.specs.Changes.{history}
 use Rattle.xpush.proofs.FeedPrograms.{are_live}
-use Rattle.xpush.proofs.serving.Serving.compiled.Goals as goal
+use Rattle.xpush.proofs.serving.Serving.program.Goals as goal
 
 pub build-requires : goal.build-requires
 build-requires c =
