@@ -25,7 +25,7 @@ pub(crate) fn build(alloc: Global, journal: &Journal) -> Result<Arc<AtVersion>, 
     let version = journal.version();
     let live = journal.snapshot(alloc)?;
     live_filters_are_in_order();
-    let program = Program::build(alloc, live.as_slice())?;
+    let program = Arc::new(alloc, Program::build(alloc, live.as_slice())?)?;
     let compiled = Compiled::of(alloc, program)?;
     let live = Arc::new(alloc, live)?;
     Ok(Arc::new(
