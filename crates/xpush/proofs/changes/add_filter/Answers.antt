@@ -12,10 +12,10 @@ refused_add-requires c = record { no_id = add_known (history c.args.journal.now.
 pub returns-in-Some : goal.returns-in-Some
 returns-in-Some c = add_refused (history c.args.journal.now.changes) (way_of c.args.filter) c.in-Some.refusal c.refused_add.result c.in-Some.ensures.refusal c.refused_add.ensures.line
 
-pub accept-id-requires : goal.accept-id-requires
-accept-id-requires c = record { legal = c.in-None.ensures.legal refl }
+pub accept-requires : goal.accept-requires
+accept-requires c = record { legal = c.in-None.ensures.legal refl }
 
-pub returns : goal.returns
-returns c =
-    added (history c.args.journal.now.changes) (way_of c.args.filter) c.in_ok-id.id (sym c.in-None.ensures.refusal) c.in_ok-id.ensures.version
-    ∙ ap (λ (h : List histories.Change). (Added c.in_ok-id.id, h)) (sym c.in_ok-id.ensures.history)
+pub returns-in_ok-id-in-None : goal.returns-in_ok-id-in-None
+returns-in_ok-id-in-None c =
+    added (history c.args.journal.now.changes) (way_of c.args.filter) c.in_ok-id-in-None.id (sym c.in-None.ensures.refusal) c.in_ok-id-in-None.ensures.version
+    ∙ ap (λ (h : List histories.Change). (Added c.in_ok-id-in-None.id, h)) (sym c.in_ok-id-in-None.ensures.history)

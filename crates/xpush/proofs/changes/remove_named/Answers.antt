@@ -11,10 +11,10 @@ refused_drop-requires c = record { no_filter = drop_small (history c.args.journa
 pub returns-in-Some : goal.returns-in-Some
 returns-in-Some c = drop_refused (history c.args.journal.now.changes) c.args.id c.in-Some.refusal c.refused_drop.result c.in-Some.ensures.refusal c.refused_drop.ensures.line
 
-pub accept-version-requires : goal.accept-version-requires
-accept-version-requires c = record { legal = c.in-None.ensures.legal refl }
+pub accept-requires : goal.accept-requires
+accept-requires c = record { legal = c.in-None.ensures.legal refl }
 
-pub returns : goal.returns
-returns c =
-    dropped (history c.args.journal.now.changes) c.args.id c.in_ok-version.version (sym c.in-None.ensures.refusal) c.in_ok-version.ensures.version
-    ∙ ap (λ (h : List histories.Change). (Dropped c.args.id c.in_ok-version.version, h)) (sym c.in_ok-version.ensures.history)
+pub returns-in_ok-version-in-None : goal.returns-in_ok-version-in-None
+returns-in_ok-version-in-None c =
+    dropped (history c.args.journal.now.changes) c.args.id c.in_ok-version-in-None.version (sym c.in-None.ensures.refusal) c.in_ok-version-in-None.ensures.version
+    ∙ ap (λ (h : List histories.Change). (Dropped c.args.id c.in_ok-version-in-None.version, h)) (sym c.in_ok-version-in-None.ensures.history)

@@ -9,10 +9,10 @@ use Rattle.xpush.proofs.Changing.{replace_refused, replaced}
 pub returns-in-Some : goal.returns-in-Some
 returns-in-Some c = replace_refused (history c.args.journal.now.changes) (way_of c.args.filter) c.args.id c.in-Some.refusal c.refused_replacement.result c.in-Some.ensures.refusal c.refused_replacement.ensures.line
 
-pub accept-version-requires : goal.accept-version-requires
-accept-version-requires c = record { legal = c.in-None.ensures.legal refl }
+pub accept-requires : goal.accept-requires
+accept-requires c = record { legal = c.in-None.ensures.legal refl }
 
-pub returns : goal.returns
-returns c =
-    replaced (history c.args.journal.now.changes) (way_of c.args.filter) c.args.id c.in_ok-version.version (sym c.in-None.ensures.refusal) c.in_ok-version.ensures.version
-    ∙ ap (λ (h : List histories.Change). (Replaced c.args.id c.in_ok-version.version, h)) (sym c.in_ok-version.ensures.history)
+pub returns-in_ok-version-in-None : goal.returns-in_ok-version-in-None
+returns-in_ok-version-in-None c =
+    replaced (history c.args.journal.now.changes) (way_of c.args.filter) c.args.id c.in_ok-version-in-None.version (sym c.in-None.ensures.refusal) c.in_ok-version-in-None.ensures.version
+    ∙ ap (λ (h : List histories.Change). (Replaced c.args.id c.in_ok-version-in-None.version, h)) (sym c.in_ok-version-in-None.ensures.history)
