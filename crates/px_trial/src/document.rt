@@ -14,7 +14,7 @@ use px_machine::Machine;
 use px_meaning::holds;
 use px_reader::{Doc, Event, Reader};
 use px_runner::{Memo, Runner};
-use px_text::Ids;
+use px_text::{Bytes, Ids};
 use px_tree::build;
 use px_xpath::Numbered;
 use std::alloc::{AllocError, Global};
@@ -31,6 +31,14 @@ pub fn events_of(alloc: Global, doc: &Doc) -> Result<Vec<Event>, Trouble>
     reader.feed(doc.bytes(), &mut events)?;
     reader.end(&mut events)?;
     Ok(events)
+}
+
+/// The events of the document that bytes spell.
+pub fn events_in(alloc: Global, document: &[u8]) -> Result<Vec<Event>, Trouble>
+    ensures tree { IfOk result (λ events. (root : Root) × (events.items ≡ spelling.events_of root)) }
+{
+    let doc = Doc::of(alloc, Bytes::of(alloc, document)?)?;
+    events_of(alloc, &doc)
 }
 
 /// The ids of the filters that hold of a document, by the machine of `serial`, which is then before

@@ -6,15 +6,14 @@ ghost use Rattle.px_reader.specs.Spelling as spelling;
 ghost use Rattle.px_afa.specs.Building.{Automata};
 ghost use Rattle.px_machine.specs.Machines.{HasRun};
 
-use crate::document::{events_of, ids_by_machine, ids_by_runner};
+use crate::document::{events_in, ids_by_machine, ids_by_runner};
 use crate::timing::{CALLS, nanos_since, now, print_time};
 use crate::trouble::Trouble;
 use px_afa::Program;
 use px_machine::Machine;
 use px_prune::Compiled;
-use px_reader::{Doc, Event};
+use px_reader::Event;
 use px_runner::PrivateMemo;
-use px_text::Bytes;
 use std::alloc::{AllocError, Global};
 use std::sync::Arc;
 use std::time::Clock;
@@ -30,17 +29,40 @@ pub fn time_quiet<R: Clock + Print>(
     program: Arc<Program>,
     compiled: Arc<Compiled>,
 ) -> Result<(), Trouble> {
-    let doc = Doc::of(alloc, Bytes::of(alloc, QUIET)?)?;
-    let events = events_of(alloc, &doc)?;
+    let events = events_in(alloc, QUIET)?;
+    time_runner(rt, alloc, compiled, &events)?;
+    time_machine(rt, alloc, program, &events)
+}
+
+/// The same by the machine that makes steps.
+fn time_runner<R: Clock + Print>(
+    rt: &R,
+    alloc: Global,
+    compiled: Arc<Compiled>,
+    events: &[Event],
+) -> Result<(), Trouble>
+    requires tree { (root : Root) × (events.now ≡ spelling.events_of root) }
+{
     let mut memo = PrivateMemo::new(alloc, compiled);
+    ids_by_runner(alloc, &mut memo, events)?;
+    let start = now(rt)?;
+    let ids = ids_by_runner_often(alloc, &mut memo, events)?;
+    print_time(rt, "quiet_by_runner", CALLS, nanos_since(rt, &start)?, ids)
+}
+
+/// The same by the machine of `serial`.
+fn time_machine<R: Clock + Print>(
+    rt: &R,
+    alloc: Global,
+    program: Arc<Program>,
+    events: &[Event],
+) -> Result<(), Trouble>
+    requires tree { (root : Root) × (events.now ≡ spelling.events_of root) }
+{
     let mut machine = Machine::new(alloc, program)?;
-    ids_by_runner(alloc, &mut memo, &events)?;
-    ids_by_machine(&mut machine, &events)?;
+    ids_by_machine(&mut machine, events)?;
     let start = now(rt)?;
-    let ids = ids_by_runner_often(alloc, &mut memo, &events)?;
-    print_time(rt, "quiet_by_runner", CALLS, nanos_since(rt, &start)?, ids)?;
-    let start = now(rt)?;
-    let ids = ids_by_machine_often(&mut machine, &events)?;
+    let ids = ids_by_machine_often(&mut machine, events)?;
     print_time(rt, "quiet_by_machine", CALLS, nanos_since(rt, &start)?, ids)
 }
 

@@ -6,7 +6,7 @@ ghost use Rattle.px_text.specs.Names.{is_digit};
 ghost use Rattle.px_text.specs.Nodes.{Root};
 ghost use Rattle.px_reader.specs.Spelling as spelling;
 
-use crate::document::{events_of, run_over};
+use crate::document::{events_in, run_over};
 use crate::trouble::Trouble;
 use crate::workload::{add as add_filter, filters, shared};
 use px_afa::{Body, Program, State};
@@ -93,14 +93,6 @@ fn judged(alloc: Global, texts: &[&[u8]], document: &[u8]) -> Result<Outcome, Tr
     let events = events_in(alloc, document)?;
     let mut memo = PrivateMemo::new(alloc, compiled_of(alloc, texts)?);
     judged_by(alloc, &mut memo, &events)
-}
-
-/// The events of the document that bytes spell.
-fn events_in(alloc: Global, document: &[u8]) -> Result<Vec<Event>, Trouble>
-    ensures tree { IfOk result (λ events. (root : Root) × (events.items ≡ spelling.events_of root)) }
-{
-    let doc = Doc::of(alloc, Bytes::of(alloc, document)?)?;
-    events_of(alloc, &doc)
 }
 
 /// The machine at the end of the events of a document.
