@@ -163,13 +163,13 @@ enum Read {
 /// Reads the text in pieces of so many bytes.
 fn read_pieces(alloc: Global, text: &[u8], size: usize) -> Read {
     let mut reader = ProofReader::new(alloc);
-    let mut rest = text;
-    while !rest.is_empty() {
-        let (piece, behind) = rest.split_at(size.min(rest.len()));
-        rest = behind;
+    let mut taken = 0usize;
+    for piece in text.chunks(size.max(1)) {
+        taken = taken.saturating_add(piece.len());
         match reader.feed(piece) {
             Ok(Some(document)) => {
-                let count = document.len() + rest.len();
+                let behind = text.len().saturating_sub(taken);
+                let count = document.len().saturating_add(behind);
                 return Read::Whole(reader.finish().as_slice().len(), count);
             }
             Ok(None) => {}
