@@ -75,7 +75,7 @@ def all_changes(proof):
 def main():
     here = pathlib.Path(__file__).resolve().parent.parent
     parser = argparse.ArgumentParser(description=__doc__, formatter_class=argparse.RawDescriptionHelpFormatter)
-    parser.add_argument("--cases", type=int, default=1000)
+    parser.add_argument("--cases", type=int, default=3000)
     parser.add_argument("--changes", type=int, default=3)
     parser.add_argument("--whole", type=int, default=1)
     parser.add_argument("--seed", type=int, default=19991116)
