@@ -46,7 +46,7 @@ def kind_of(number, words):
 
 
 def look(known, session):
-    """Notes what each process of the prover in this session of processes has cost so far."""
+    """Notes what each process of the prover that the gate started has cost so far."""
     for number in filter(str.isdigit, os.listdir("/proc")):
         try:
             fields = fields_of(number)
