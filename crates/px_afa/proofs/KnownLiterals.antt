@@ -86,15 +86,6 @@ literal_new old new literals text class are e at put count =
     end_length [] = refl
     end_length (l ∷ ls) = let ih = end_length ls in omega arith
 
--- a literal that is there
-pub literal_there : (table : Literals) (literals : List (List ℕ)) (text : List ℕ) (n : ℕ) → AreLiterals table literals → found table.classes text ≡ Some n → AreLiterals table (with_literal (Some text) literals)
-literal_there table literals text n are e =
-    subst (AreLiterals table) (sym (ap (λ b. cond b literals (literals ++ text ∷ [])) (some_has (has_text literals text) (sym (are.classes text) ∙ e)))) are
-  where
-    some_has : (b : Bool) → cond b (Some (class_of_text 1 literals text)) None ≡ Some n → b ≡ true
-    some_has true h = refl
-    some_has false h = cc
-
 pub literals_room : (table : Literals) (states : List State) (n most : ℕ) → AreLiterals table (literals_of (newest (take n states))) → n < length states → length states ≤ most → table.count < most
 literals_room table states n most are less le =
     let long = are.count in

@@ -59,26 +59,12 @@ map_end : {A B : Type 0} (f : A → B) (xs : List A) (x : A) → map f (xs ++ x 
 map_end f [] x = refl
 map_end f (y ∷ xs) x = ap (λ rest. f y ∷ rest) (map_end f xs x)
 
-some_contains : (kinds : List Kind) (kind : Kind) (n : ℕ) → known_label kinds kind ≡ Some n → contains_kind kinds kind ≡ true
-some_contains kinds kind n e = go (contains_kind kinds kind) e
-  where
-    go : (b : Bool) → cond b (Some (label_number kinds kind)) None ≡ Some n → b ≡ true
-    go true h = refl
-    go false h = cc
-
 none_contains : (kinds : List Kind) (kind : Kind) → known_label kinds kind ≡ None → contains_kind kinds kind ≡ false
 none_contains kinds kind e = go (contains_kind kinds kind) e
   where
     go : (b : Bool) → cond b (Some (label_number kinds kind)) None ≡ None → b ≡ false
     go true h = cc
     go false h = refl
-
--- a name that is there
-pub element_there : (names : Names) (kinds : List Kind) (name : List ℕ) (n : ℕ) → AreNames names kinds → found names.elements name ≡ Some n → AreNames names (with_name (Some (ElementKind name)) kinds)
-element_there names kinds name n are e = let c = some_contains kinds (ElementKind name) n (sym (are.elements name) ∙ e) in rw c are
-
-pub attribute_there : (names : Names) (kinds : List Kind) (name : List ℕ) (n : ℕ) → AreNames names kinds → found names.attributes name ≡ Some n → AreNames names (with_name (Some (AttributeKind name)) kinds)
-attribute_there names kinds name n are e = let c = some_contains kinds (AttributeKind name) n (sym (are.attributes name) ∙ e) in rw c are
 
 pub turned : (a b : List ℕ) → bytes_eq a b ≡ bytes_eq b a
 turned a b = go (bytes_eq a b) (bytes_eq b a) refl refl

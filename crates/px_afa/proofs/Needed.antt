@@ -9,12 +9,6 @@ use Rattle.px_afa.specs.Truth.{state_at, true_at, state_holds}
 use Rattle.px_afa.specs.Sets.{true_in, state_in, needs, need_state}
 use Rattle.px_afa.proofs.StatesByNumber.{state_at-older}
 
-cond_at_true {ℓ} : {A : Type ℓ} {b : Bool} (x y : A) → b ≡ true → cond b x y ≡ x
-cond_at_true x y e = rw e refl
-
-cond_at_false {ℓ} : {A : Type ℓ} {b : Bool} (x y : A) → b ≡ false → cond b x y ≡ y
-cond_at_false x y e = rw e refl
-
 -- some member needs it
 any_below : (need : ℕ → ℕ → Bool) (bound k : ℕ) → ((p : ℕ) → need p k ≡ true → k < bound) → (parts : List ℕ) →
     list_any (λ p. need p k) parts ≡ true → k < bound

@@ -1,6 +1,5 @@
 -- The states up to a number, newest first, as a loop comes to them.
 use Rattle.std.proofs.Common.{◌≡◌, ℕ, zero, suc, ◌+◌, ◌<◌, ◌≤◌, List, [], ◌∷◌, ◌++◌, length, get_or, take, sym, ◌∙◌, ap, arith}
-use Rattle.std.proofs.lemmas.List.{take_all}
 use Rattle.px_afa.specs.declared.state.State.{State}
 use Rattle.px_afa.specs.Building.{newest}
 use Rattle.px_afa.proofs.StatesByNumber.{newest-end}
@@ -15,6 +14,3 @@ newest_more states n x less is = ap newest (take_more states n x less is) ∙ ne
 
 pub newest_next : (states : List State) (n m : ℕ) (x : State) → n < length states → x ≡ get_or states n x → m ≡ n + 1 → newest (take m states) ≡ x ∷ newest (take n states)
 newest_next states n m x less is next = let e : m ≡ suc n = omega arith in ap (λ k. newest (take k states)) e ∙ newest_more states n x less is
-
-pub newest_all : (states : List State) (n : ℕ) → length states ≤ n → newest (take n states) ≡ newest states
-newest_all states n le = ap newest (take_all n states le)

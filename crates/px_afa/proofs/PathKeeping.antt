@@ -13,22 +13,14 @@ use Rattle.px_afa.specs.Contents.{Kind, ElementKind, AttributeKind}
 use Rattle.px_afa.specs.Truth.{state_at}
 use Rattle.px_afa.specs.Building.{newest}
 use Rattle.px_afa.specs.Sets.{numbers_where}
-use Rattle.px_afa.specs.Labels.{names_of, label_number, label_in, kind_at, is_element_kind, is_element_label, is_attribute_label}
+use Rattle.px_afa.specs.Labels.{names_of, label_number, kind_at, is_element_kind, is_element_label, is_attribute_label}
 use Rattle.px_afa.specs.Lists.{row, is_key}
-use Rattle.px_afa.specs.Tables.{is_met, body_guard, is_under, tests_exactly, is_unguarded, tests_any_element, tests_any_attribute, unguarded_loosely, states_where}
+use Rattle.px_afa.specs.Tables.{body_guard, is_unguarded, tests_any_element, tests_any_attribute, unguarded_loosely, states_where}
 use Rattle.px_afa.specs.PathKept.{met_of, known, met_at, ArePathTables}
 use Rattle.px_afa.proofs.StatesByNumber.{newest-at, newest-length}
 use Rattle.px_afa.proofs.Sizes.{label-few}
 use Rattle.px_afa.proofs.ToldLabels.{kind_at-low}
 use Rattle.px_afa.proofs.GuardTables.{body_guard-below, newest_get}
-
-pub map_next : {A B : Type 0} (f : A → B) (xs : List A) (n : ℕ) (x : A) → n < length xs → x ≡ get_or xs n x → map f (take (n + 1) xs) ≡ map f (take n xs) ++ f x ∷ []
-map_next f xs n x less is = let e : n + 1 ≡ suc n = omega arith in rw e (go xs n less is)
-  where
-    go : (ys : List _) (m : ℕ) → m < length ys → x ≡ get_or ys m x → map f (take (suc m) ys) ≡ map f (take m ys) ++ f x ∷ []
-    go [] m l e = absurd (omega arith)
-    go (y ∷ ys) zero l e = ap (λ z. f z ∷ []) (sym e)
-    go (y ∷ ys) (suc m) l e = ap (λ rest. f y ∷ rest) (go ys m (omega arith) e)
 
 pub get_map : {A B : Type 0} (f : A → B) (xs : List A) (n : ℕ) → slice_get (map f xs) n ≡ option_map f (slice_get xs n)
 get_map f [] n = refl
@@ -60,28 +52,6 @@ pub list_all-found : (states : List State) (n : ℕ) (passes : Option State → 
     list ≡ numbers_where n (λ m. passes (state_at (newest states) m)) → list ≡ states_where (newest states) passes
 list_all-found states n passes list all is = is ∙ ap (λ m. numbers_where m (λ j. passes (state_at (newest states) j))) (all ∙ sym (newest-length states))
 
--- the labels that meet a test
-abbrev pub meets_by : List Kind → Met → ℕ → Bool
-meets_by kinds (met.Label wanted) label = nat_eq label wanted
-meets_by kinds met.AnyElement label = is_element_label kinds label
-meets_by kinds met.AnyAttribute label = is_attribute_label kinds label
-meets_by kinds met.Nothing label = false
-
-meets_by-is : (kinds : List Kind) (s : Option State) (label : ℕ) → meets_by kinds (met_of kinds s) label ≡ is_met (label_in kinds label) s
-meets_by-is kinds None label = refl
-meets_by-is kinds (Some (state.Path axis (test.Element name) b)) label = refl
-meets_by-is kinds (Some (state.Path axis test.AnyElement b)) label = refl
-meets_by-is kinds (Some (state.Path axis (test.Attribute name) b)) label = refl
-meets_by-is kinds (Some (state.Path axis test.AnyAttribute b)) label = refl
-meets_by-is kinds (Some (state.Path axis test.Text b)) label = refl
-meets_by-is kinds (Some (state.And parts)) label = refl
-meets_by-is kinds (Some (state.Or parts)) label = refl
-meets_by-is kinds (Some (state.Not part)) label = refl
-meets_by-is kinds (Some (state.Value r wanted)) label = refl
-
-pub met_told : (kinds : List Kind) (s : Option State) (m n : Met) (label : ℕ) → m ≡ n → m ≡ met_of kinds s → meets_by kinds n label ≡ is_met (label_in kinds label) s
-met_told kinds s m n label same is = ap (λ z. meets_by kinds z label) (sym same ∙ is) ∙ meets_by-is kinds s label
-
 -- what is kept for each state is what its test says
 pub tests-told : (states : List State) (kinds : List Kind) (tests : List Met) → tests ≡ map (λ s. met_of kinds (Some s)) states → (n : ℕ) → met_at tests n ≡ met_of kinds (state_at (newest states) n)
 tests-told states kinds tests is n =
@@ -96,20 +66,6 @@ label_of (met.Label label) = Some label
 label_of met.AnyElement = None
 label_of met.AnyAttribute = None
 label_of met.Nothing = None
-
-exactly-is : (kinds : List Kind) (s : State) (label : ℕ) → is_key (label_of (met_of kinds (Some s))) label ≡ tests_exactly kinds label (Some s)
-exactly-is kinds (state.Path axis (test.Element name) b) label = refl
-exactly-is kinds (state.Path axis test.AnyElement b) label = refl
-exactly-is kinds (state.Path axis (test.Attribute name) b) label = refl
-exactly-is kinds (state.Path axis test.AnyAttribute b) label = refl
-exactly-is kinds (state.Path axis test.Text b) label = refl
-exactly-is kinds (state.And parts) label = refl
-exactly-is kinds (state.Or parts) label = refl
-exactly-is kinds (state.Not part) label = refl
-exactly-is kinds (state.Value r wanted) label = refl
-
-pub exactly_told : (kinds : List Kind) (s : State) (m n : Met) (label : ℕ) → m ≡ n → m ≡ met_of kinds (Some s) → is_key (label_of n) label ≡ tests_exactly kinds label (Some s)
-exactly_told kinds s m n label same is = ap (λ z. is_key (label_of z) label) (sym same ∙ is) ∙ exactly-is kinds s label
 
 label-below : (kinds : List Kind) (s : Option State) (label : ℕ) → met.Label label ≡ met_of kinds s → label < 3 + length kinds
 label-below kinds (Some (state.Path axis (test.Element name) b)) label e = let few = label-few kinds (ElementKind name) in let same : label ≡ label_number kinds (ElementKind name) = cc in omega arith
@@ -130,13 +86,6 @@ label_within kinds s m label same is = label-below kinds (Some s) label (sym sam
 pub guard_within : (states : List State) (body : Body) (key : Option ℕ) → key ≡ body_guard states body → IfSome key (λ g. g < length states)
 guard_within states body None is = tt
 guard_within states body (Some g) is = body_guard-below states body g (sym is)
-
-pub guard_told : (states : List State) (body : Body) (key : Option ℕ) (guard : ℕ) → key ≡ body_guard states body → is_key key guard ≡ is_under states guard (body_guard states body)
-guard_told states body key guard is = ap (λ o. is_key o guard) is ∙ go (body_guard states body)
-  where
-    go : (o : Option ℕ) → is_key o guard ≡ is_under states guard o
-    go None = refl
-    go (Some g) = refl
 
 -- a label is an element's or an attribute's, and not both
 labels-apart : (kinds : List Kind) (label : ℕ) → is_element_label kinds label ≡ true → is_attribute_label kinds label ≡ false
@@ -175,14 +124,6 @@ loosely-elements tables states label are is =
     (or_false (tests_any_element (state_at states m))
     ∙ (ap (λ b. tests_any_element (state_at states m) || (b && tests_any_attribute (state_at states m))) (sym (labels-apart (names_of states) label (sym is)))
     ∙ ap (λ b. (b && tests_any_element (state_at states m)) || (is_attribute_label (names_of states) label && tests_any_attribute (state_at states m))) is)))
-
-pub loosely-attributes : (tables : PathTables) (states : List State) (label : ℕ) → ArePathTables tables states → false ≡ is_element_label (names_of states) label → true ≡ is_attribute_label (names_of states) label →
-    tables.any_attributes.items ≡ unguarded_loosely states label
-loosely-attributes tables states label are not_element is =
-    are.any_attributes ∙ where-same (length states) _ _ (λ m.
-    ap (λ b. is_unguarded states (state_at states m) && b)
-    (ap (λ b. b && tests_any_attribute (state_at states m)) is
-    ∙ ap (λ b. (b && tests_any_element (state_at states m)) || (is_attribute_label (names_of states) label && tests_any_attribute (state_at states m))) not_element))
 
 pub loosely-none : (states : List State) (label : ℕ) → false ≡ is_element_label (names_of states) label → false ≡ is_attribute_label (names_of states) label → [] ≡ unguarded_loosely states label
 loosely-none states label not_element not_attribute =

@@ -21,7 +21,7 @@ use Rattle.px_afa.specs.declared.state.State.TheVariants as state
 use Rattle.px_afa.specs.Contents.{Kind, ElementKind, AttributeKind, TextKind}
 use Rattle.px_afa.specs.Building.{number_of, share, made_or_new, MadeParts, one_of, body_made, end_made, joined, path_made, way_made, condition_made, conditions_made, filters_made}
 use Rattle.px_afa.specs.Labels.{same_kind, contains_kind, with_name, names_of, state_name, place_of, label_number}
-use Rattle.px_afa.specs.Classes.{with_literal, literals_of, state_literal, class_of_text, text_class, with_constant, with_if_some, constants_of, state_constant, cut_class, class_of_number, number_class, cut_of, constant_class}
+use Rattle.px_afa.specs.Classes.{with_literal, literals_of, state_literal, class_of_text, text_class, with_constant, with_if_some, constants_of, state_constant, cut_class, class_of_number, number_class, cut_of}
 use Rattle.px_afa.specs.Sound.{AreProper}
 
 share-few : (s : State) (states : List State) → length (share s states).states ≤ length states + 1
@@ -53,10 +53,6 @@ record Few (states : List State) (made : MadeParts) (more parts : ℕ) : Type 0 
 end-few : (end : Option (Relation × Value)) (states : List State) → Few states (end_made end states) (end_count end) (end_count end)
 end-few None states = record { few = omega arith; parts_are = refl }
 end-few (Some e) states = record { few = share-few (state.Value e.0 e.1) states; parts_are = refl }
-
-behind-is : (way : Way) (end : Option (Relation × Value)) (states : List State) → length (way_made way end states).parts ≡ parts_behind way (end_count end)
-behind-is Arrived end states = (end-few end states).parts_are
-behind-is (StepThen axis asked conds onward) end states = refl
 
 path-few : (axis : Axis) (asked : Test) (a b more : ℕ) (states : List State) (first : MadeParts) (second : MadeParts) →
     Few states first a more → (k : ℕ) → Few first.states second b k →
@@ -200,9 +196,6 @@ cut-few passed (c ∷ constants) cut = go (cut c) (cut-few (suc (suc passed)) co
     go Less ih = omega arith
     go Equal ih = omega arith
     go Greater ih = omega arith
-
-pub constant_class-few : (states : List State) (units : ℤ) → constant_class states units ≤ 2 * length states + 1
-constant_class-few states units = let one = cut-few 0 (constants_of states) (int_cmp units) in let all = constants-few states in omega arith
 
 pub number_class-few : (states : List State) (text : List ℕ) → number_class states text ≤ 2 * length states + 1
 number_class-few states text = go (cut_of text)

@@ -42,7 +42,7 @@ impl Builder {
     }
 
     /// The number of a state, which is the next one where the state is new.
-    /// It takes memory for a new state and a copy of it, and fails only where that is refused.
+    /// It takes memory for a new state and a copy of it, and its only failure is want of memory.
     pub fn share(&mut self, state: State) -> Result<u32, AllocError>
         requires few { length self.old < 500_000 }
         ensures shared { IfOk result (λ n. record { states = self.new; number = n } ≡ share state self.old) }

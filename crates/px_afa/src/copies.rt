@@ -6,7 +6,7 @@ use crate::state::State;
 use std::alloc::AllocError;
 
 impl State {
-    /// An equal state. It takes memory for its name, literal or parts, and fails only where that is refused.
+    /// An equal state. It takes memory for its name, literal or parts, and its only failure is want of memory.
     pub(crate) fn copy(&self) -> Result<State, AllocError>
         ensures same { IfOk result (λ copy. copy ≡ self.now) }
     {

@@ -40,7 +40,7 @@ impl Dictionary {
         self.numbers.get(text).copied()
     }
 
-    /// Gives a number to a text, of which it keeps a copy. It fails only where memory is refused.
+    /// Gives a number to a text, of which it keeps a copy. Its only failure is want of memory.
     pub fn put(&mut self, alloc: Global, text: &[u8], number: u32) -> Result<(), AllocError>
         ensures put { OnOk result ((other : List ℕ) → found self.new other ≡ cond (bytes_eq other text.now) (Some number) (found self.old other)) }
     {

@@ -10,7 +10,7 @@ use crate::groups::Groups;
 use crate::state::{First, State};
 use std::alloc::{AllocError, Global};
 
-/// The ids of the filters under their first states. It fails only where memory is refused.
+/// The ids of the filters under their first states. Its only failure is want of memory.
 pub fn ids_by_first(alloc: Global, states: &[State], firsts: &[First]) -> Result<Groups, AllocError>
     requires paths { ArePaths (newest states.now) firsts.now }
     ensures ids { IfOk result (λ ids. (state : ℕ) → row ids state ≡ accept firsts.now (state ∷ [])) }

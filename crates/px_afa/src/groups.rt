@@ -23,7 +23,7 @@ impl Model for Groups {
 }
 
 impl Groups {
-    /// So many lists without numbers. It fails only where memory is refused.
+    /// So many lists without numbers. Its only failure is want of memory.
     pub fn new(alloc: Global, count: usize) -> Result<Groups, AllocError>
         ensures count { IfOk result (λ rows. length rows ≡ count) }
         ensures empty { IfOk result (λ rows. (key : ℕ) → row rows key ≡ []) }

@@ -12,7 +12,7 @@ use crate::state::{Body, State};
 use px_xpath::Test;
 use std::alloc::{AllocError, Global};
 
-/// The guard of each state. It fails only where memory is refused.
+/// The guard of each state. Its only failure is want of memory.
 pub fn guards(alloc: Global, states: &[State]) -> Result<Vec<Option<u32>>, AllocError>
     requires few { length states.now ≤ 500_000 }
     ensures all { IfOk result (λ guards. AreGuards guards.items (newest states.now)) }

@@ -18,7 +18,7 @@ pub struct Literals {
 }
 
 impl Literals {
-    /// The literals of the states. It fails only where memory is refused.
+    /// The literals of the states. Its only failure is want of memory.
     pub fn of(alloc: Global, states: &[State]) -> Result<Literals, AllocError>
         requires few { length states.now ≤ 500_000 }
         ensures all { IfOk result (λ table. AreLiterals table (literals_of (newest states.now))) }

@@ -21,7 +21,7 @@ pub struct Names {
 }
 
 impl Names {
-    /// The names that the states test. It fails only where memory is refused.
+    /// The names that the states test. Its only failure is want of memory.
     pub fn of(alloc: Global, states: &[State]) -> Result<Names, AllocError>
         requires few { length states.now ≤ 500_000 }
         ensures all { IfOk result (λ names. AreNames names (names_of (newest states.now))) }

@@ -39,7 +39,7 @@ pub struct PathTables {
 }
 
 impl PathTables {
-    /// The tables of the states. It fails only where memory is refused.
+    /// The tables of the states. Its only failure is want of memory.
     pub fn of(alloc: Global, states: &[State]) -> Result<PathTables, AllocError>
         requires few { length states.now ≤ 500_000 }
         ensures all { IfOk result (λ tables. ArePathTables tables (newest states.now)) }

@@ -48,7 +48,7 @@ impl Model for Program {
 
 impl Program {
     /// The program of live filters, whose ids rise and whose sizes are at most 500,000 together.
-    /// It takes memory for the states and for what they are looked up by, and fails only where that is refused.
+    /// It takes memory for the states and for what they are looked up by, and its only failure is want of memory.
     pub fn build(alloc: Global, live: &[Numbered]) -> Result<Program, AllocError>
         requires live { AreLive (subscriptions live.now) }
         ensures program { IfOk result (λ program. program ≡ automata (subscriptions live.now)) }

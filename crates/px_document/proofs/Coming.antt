@@ -26,11 +26,6 @@ pub stopped_by_doc : {A : Type 0} (given : Result A Stop) (by : ReaderFault) (fo
 stopped_by_doc given (fault.Doc doc) found wanted e p q = cc
 stopped_by_doc given fault.Memory found wanted e p q = absurd (cc)
 
--- and no fault of the source did
-pub stopped_by_reader : {A : Type 0} (given : Result A Stop) (by : ReaderFault) (found : Stop) → given ≡ Err found → found ≡ stop_of by → given ≡ Err stop.Source → ⊥
-stopped_by_reader given (fault.Doc doc) found e p q = absurd (cc)
-stopped_by_reader given fault.Memory found e p q = absurd (cc)
-
 -- the reader has read on, with all events behind the earlier ones
 pub come_on : (old new : Progress) (before behind : List Event) (piece bytes : List ℕ) → ReadsPart old new piece before behind → HasRead old bytes before → HasRead new (bytes ++ piece) behind
 come_on old new before behind piece bytes on r =

@@ -31,7 +31,7 @@ pub struct Document {
 }
 
 impl Document {
-    /// A document of which nothing has come. It fails only where memory is refused.
+    /// A document of which nothing has come. Its only failure is want of memory.
     pub fn new(alloc: Global) -> Result<Document, AllocError>
         ensures { IfOk result (λ document. HasCome document []) }
     {

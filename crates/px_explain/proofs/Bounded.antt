@@ -4,7 +4,7 @@ use Rattle.std.specs.Prelude.{◌||◌}
 use Rattle.std.specs.List.{list_any}
 use Rattle.std.proofs.lemmas.List.Folds.{list_any-append}
 use Rattle.px_explain.specs.declared.node.ProofNode.{ProofNode}
-use Rattle.px_explain.specs.Bounds.{has_above, AreSmall, Exceeds}
+use Rattle.px_explain.specs.Bounds.{has_above, AreSmall}
 
 neither : (a b : Bool) → a ≡ false → b ≡ false → (a || (b || false)) ≡ false
 neither true b h k = absurd (apart h)
@@ -21,10 +21,3 @@ neither false false h k = refl
 pub still_small : (nodes : List ProofNode) (node : ProofNode) → AreSmall nodes → has_above 4_294_967_295 node ≡ false → AreSmall (nodes ++ node ∷ [])
 still_small nodes node small here =
     list_any-append (has_above 4_294_967_295) nodes (node ∷ []) ∙ neither (list_any (has_above 4_294_967_295) nodes) (has_above 4_294_967_295 node) small here
-
--- few small nodes are not too much
-pub in_bounds : (nodes : List ProofNode) → length nodes ≤ 100_000 → AreSmall nodes → Exceeds nodes → ⊥
-in_bounds nodes few small e = elim e.so [ inl many ↦ omega arith | inr large ↦ apart (sym large ∙ small) ]
-  where
-    apart : true ≡ false → ⊥
-    apart e = cc

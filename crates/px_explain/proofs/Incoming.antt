@@ -11,7 +11,7 @@ use Rattle.px_explain.specs.declared.node.ProofNode.{ProofNode}
 use Rattle.px_explain.specs.declared.node.ProofNode.TheVariants.{Y, N, T, C, R, V, A, B, O, P, Bang}
 use Rattle.px_explain.specs.declared.proof_reader.ProofReader.{ProofReader}
 use Rattle.px_explain.specs.declared.reading.ProofFault.{ProofFault}
-use Rattle.px_explain.specs.declared.reading.ProofFault.TheVariants.{NotAProof, TooMany, Memory}
+use Rattle.px_explain.specs.declared.reading.ProofFault.TheVariants.{NotAProof, TooMany}
 use Rattle.px_explain.specs.Bounds.{has_above, AreSmall}
 use Rattle.px_explain.specs.Incoming.{HasTaken, HasProof, IsFaultOf, TakesOn, EndsProof, FailsBy, fault_behind}
 use Rattle.px_explain.specs.Lines.{node_of}
@@ -88,20 +88,6 @@ no_line_so_long xs more f l b =
 
 pub no_end_so_long : (xs more : List ℕ) → has_no_feed xs ≡ true → 1 < length xs → BeginsWithEnd (xs ++ more) → ⊥
 no_end_so_long xs more f l b = beyond xs more (61 ∷ []) b.0 f l b.1
-
--- bytes without a line feed begin no line
-feed_inside : (xs ys m : List ℕ) → has_no_feed xs ≡ true → xs ≡ ys ++ 10 ∷ m → ⊥
-feed_inside xs ys m f e =
-    beyond xs [] ys m f (shorter xs ys m e) (append-nil xs ∙ e)
-  where
-    shorter : (xs ys m : List ℕ) → xs ≡ ys ++ 10 ∷ m → length ys < length xs
-    shorter xs ys m e = omega (arith, ap length e, length-append ys (10 ∷ m))
-
-pub no_line_begun : (xs : List ℕ) → has_no_feed xs ≡ true → BeginsWithLine xs → ⊥
-no_line_begun xs f b = feed_inside xs (words b.0) b.1 f (b.3 ∙ append_assoc (words b.0) (10 ∷ []) b.1)
-
-pub no_end_begun : (xs : List ℕ) → has_no_feed xs ≡ true → BeginsWithEnd xs → ⊥
-no_end_begun xs f b = feed_inside xs (61 ∷ []) b.0 f b.1
 
 -- a line that is another
 pub no_other_end : (ws more : List ℕ) → has_no_feed ws ≡ true → ws ≢ codes "=" → BeginsWithEnd (ws ++ 10 ∷ more) → ⊥

@@ -1,9 +1,8 @@
 -- Proofs behind one another.
 use Rattle.std.proofs.Common.{◌≡◌, ℕ, Bool, true, false, List, [], ◌∷◌, ◌++◌, append_assoc, map, Option, Some, None, Result, Ok, Err, ap, ◌∙◌, sym, cond, subst, length, nat_eq}
-use Rattle.std.proofs.lemmas.Bool.{true≢false}
 use Rattle.std.specs.Borrow.{Bor}
 use Rattle.px_text.specs.Nodes.{Place}
-use Rattle.px_xpath.specs.Filters.{Way, Arrived, StepThen, Condition, Conditions}
+use Rattle.px_xpath.specs.Filters.{Way, StepThen, Condition, Conditions}
 use Rattle.px_text.specs.Nodes.{string_value}
 use Rattle.px_xpath.specs.declared.filter.Cond.{Cond, Compare}
 use Rattle.px_xpath.specs.declared.filter.Path as path_type
@@ -15,21 +14,12 @@ use Rattle.px_xpath.specs.Meaning.{compares}
 use Rattle.px_xpath.specs.Views.{condition, ways}
 use Rattle.px_xpath.proofs.FilterViews.{way-steps}
 use Rattle.px_explain.specs.declared.node.ProofNode.{ProofNode}
-use Rattle.px_explain.specs.declared.node.ProofNode.TheVariants.{N, R, A, P}
+use Rattle.px_explain.specs.declared.node.ProofNode.TheVariants.{N, A, P}
 use Rattle.px_explain.specs.Table.{claim, list, Claim, Path, Each, OneOf, Candidate, behind, where_valid, left}
 use Rattle.px_xpath.specs.declared.filter.Axis.{Axis}
 use Rattle.px_xpath.specs.declared.filter.Test.{Test}
 use Rattle.px_xpath.specs.Meaning.{candidates}
-use Rattle.px_xpath.specs.Proper.{has_steps}
 use Rattle.px_explain.specs.Leaving.{Leaves, Goes}
-
-pub leaves_two : (cs ds : List Claim) (ns : List ProofNode) (r : Bor (List ProofNode)) (result : Result (Bor (List ProofNode)) (Bor (List ProofNode))) →
-    Leaves cs ns (Ok r) → Leaves ds r.now result → Leaves (cs ++ ds) ns result
-leaves_two cs ds ns r (Ok s) h k = λ more. ap (λ (gs : List Claim). left gs ns) (append_assoc cs ds more) ∙ h (ds ++ more) ∙ k more
-leaves_two cs ds ns r (Err s) h k = λ more. ap (λ (gs : List Claim). left gs ns) (append_assoc cs ds more) ∙ h (ds ++ more) ∙ k more
-
-pub leaves_stop : (cs ds : List Claim) (ns : List ProofNode) (r : Bor (List ProofNode)) → Leaves cs ns (Err r) → Leaves (cs ++ ds) ns (Err r)
-leaves_stop cs ds ns r h = λ more. ap (λ (gs : List Claim). left gs ns) (append_assoc cs ds more) ∙ h (ds ++ more)
 
 pub goes_on : (all cs ds : List Claim) (p l : List ProofNode) (r : Bor (List ProofNode)) → Goes all p (cs ++ ds) l → Leaves cs l (Ok r) → Goes all p ds r.now
 goes_on all cs ds p l r h k = λ more. h more ∙ ap (λ (gs : List Claim). left gs l) (append_assoc cs ds more) ∙ k (ds ++ more)
@@ -42,10 +32,6 @@ pub leaves_valid : (g : Claim) (n : ProofNode) (cs : List Claim) (ns : List Proo
     behind g n ≡ Some cs → Leaves cs ns result → Leaves (g ∷ []) (n ∷ ns) result
 leaves_valid g n cs ns (Ok r) e h = λ more. ap (λ (o : Option (List Claim)). where_valid o (λ ds. left (ds ++ more) ns) (n ∷ ns)) e ∙ h more
 leaves_valid g n cs ns (Err r) e h = λ more. ap (λ (o : Option (List Claim)). where_valid o (λ ds. left (ds ++ more) ns) (n ∷ ns)) e ∙ h more
-
--- a node that is not valid
-pub leaves_wrong : (g : Claim) (n : ProofNode) (ns : List ProofNode) (r : Bor (List ProofNode)) → behind g n ≡ None → r.now ≡ (n ∷ ns) → Leaves (g ∷ []) (n ∷ ns) (Err r)
-leaves_wrong g n ns r e h = λ more. ap (λ (o : Option (List Claim)). where_valid o (λ ds. left (ds ++ more) ns) (n ∷ ns)) e ∙ ap Err (sym h)
 
 -- the same where the node is at the front of what is left
 pub valid_at : (g : Claim) (n : ProofNode) (cs : List Claim) (p b : List ProofNode) (result : Result (Bor (List ProofNode)) (Bor (List ProofNode))) →
@@ -77,13 +63,6 @@ pub counted_at : (axis : Axis) (t : Test) (cs : Conditions) (onward : Way) (end 
 counted_at axis t cs onward end x n k p b result m e c h =
     valid_at (Path false (StepThen axis t cs onward) end x) n (map (Candidate t cs onward end) (candidates axis x)) p b result e
     (ap (behind (Path false (StepThen axis t cs onward) end x)) m ∙ ap (λ (o : Bool). cond o (Some (map (Candidate t cs onward end) (candidates axis x))) None) c) h
-
-pub rest_at : (t : Test) (cs : Conditions) (onward : Way) (end : Place → Bool) (y : Place) (n : ProofNode) (p b : List ProofNode) (result : Result (Bor (List ProofNode)) (Bor (List ProofNode))) →
-    has_steps onward ≡ true → n ≡ R → p ≡ (n ∷ b) → Leaves (Path false onward end y ∷ []) b result → Leaves (Candidate t cs onward end y ∷ []) p result
-rest_at t cs Arrived end y n p b result s m e h = absurd (true≢false (sym s))
-rest_at t cs (StepThen axis u ds onward) end y n p b result s m e h =
-    valid_at (Candidate t cs (StepThen axis u ds onward) end y) n (Path false (StepThen axis u ds onward) end y ∷ []) p b result e
-    (ap (behind (Candidate t cs (StepThen axis u ds onward) end y)) m) h
 
 -- a comparison is its path, compared at its end
 pub compare_at : (answer : Bool) (cond : Cond) (path : path_type.Path) (r : Relation) (value : Value) (steps : List Step) (x : Place) (p : List ProofNode) (result : Result (Bor (List ProofNode)) (Bor (List ProofNode))) →

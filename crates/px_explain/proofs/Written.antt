@@ -13,7 +13,6 @@ use Rattle.px_explain.specs.declared.node.ProofNode.TheVariants.{Y, N}
 use Rattle.px_explain.specs.declared.fault.ExplainFault.{ExplainFault}
 use Rattle.px_explain.specs.declared.fault.ExplainFault.TheVariants.{TooMany, Memory}
 use Rattle.px_explain.specs.Canonical as why
-use Rattle.px_explain.specs.Canonical.{least, rest_fails}
 use Rattle.px_explain.specs.Bounds.{Exceeds, has_above}
 use Rattle.px_explain.specs.Writing.{Writes, Searched, Found, Past, Beyond, search_among}
 use Rattle.px_explain.proofs.Accepted.{candidate_nodes}
@@ -44,9 +43,6 @@ pub goes_wrong : (all xs rest start out new : List ProofNode) (fault : ExplainFa
 goes_wrong all xs rest start out new TooMany e h =
     λ more. subst Exceeds (sym (append_assoc (out ++ xs) rest more) ∙ ap (λ (q : List ProofNode). q ++ more) (append_assoc out xs rest ∙ sym e)) (h (rest ++ more))
 goes_wrong all xs rest start out new Memory e h = tt
-
-pub goes_further : (all xs rest start out new : List ProofNode) → start ++ all ≡ out ++ (xs ++ rest) → new ≡ out ++ xs → start ++ all ≡ new ++ rest
-goes_further all xs rest start out new e h = e ∙ sym (append_assoc out xs rest) ∙ ap (λ (q : List ProofNode). q ++ rest) (sym h)
 
 any_at : (f : ProofNode → Bool) (old rest : List ProofNode) (x : ProofNode) → f x ≡ true → list_any f (old ++ x ∷ rest) ≡ true
 any_at f [] rest x h = rw h refl

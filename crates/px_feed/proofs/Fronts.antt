@@ -71,13 +71,6 @@ begins-output-waiting items left bytes rest given waiting lines taken are e =
     let (more, stop, has) = begins-items items left bytes rest (given ++ waiting) taken e in
     output_behind (bytes ++ rest) given (waiting ++ more) lines stop (subst (λ its. HasItems (bytes ++ rest) its stop) (append_assoc given waiting more) has) are
 
--- the answers to the items taken so far begin the output
-pub begins-output : (items : Items) (left : Option (List ℕ)) (bytes rest : List ℕ) (given : List Item) (lines : List OutLine) →
-    HasTaken items left bytes given → AreLines given lines → left ≡ Some rest →
-    (text more : List ℕ) × (status : Status) × Out (bytes ++ rest) text status × (text ≡ text_of lines ++ more)
-begins-output items left bytes rest given lines taken are e =
-    let (more, stop, has) = begins-items items left bytes rest given taken e in output_behind (bytes ++ rest) given more lines stop has are
-
 -- the output where a feed has ended
 pub out-at-end : (left : Option (List ℕ)) (bytes rest : List ℕ) (given : List Item) (lines : List OutLine) → Ends End left bytes given → AreLines given lines → left ≡ Some rest →
     Out (bytes ++ rest) (text_of (lines ++ lines_at AtEnd)) (status_of (lines ++ lines_at AtEnd))

@@ -85,7 +85,7 @@ impl Items {
     ghost use Rattle.px_feed.specs.Taking.{HasTaken, HasEnded, AnswersSoFar, IsDrained, TakesBy, Refills, FinishesBy, held};
     ghost use Rattle.px_feed.specs.Joining.{total};
 
-    /// Before the first byte. It fails only where memory is refused.
+    /// Before the first byte. Its only failure is want of memory.
     pub fn new(alloc: Global) -> Result<Items, AllocError>
         ensures { IfOk result (λ items. (left : Option (List ℕ)) → HasTaken items left [] []) }
     {

@@ -156,7 +156,7 @@ impl<N: HubName> Desk<N> {
         Ok(version)
     }
 
-    /// Accepts a change of the pass, which then has seen it as the last. It fails only where memory is refused, and then nothing has changed.
+    /// Accepts a change of the pass, which then has seen it as the last. Its only failure is want of memory, and then nothing has changed.
     fn accept(
         &mut self,
         alloc: Global,
@@ -181,7 +181,7 @@ impl<N: HubName> Desk<N> {
         Ok(version)
     }
 
-    /// The pass sees all that the desk has seen. It fails only where memory is refused, and then nothing has changed.
+    /// The pass sees all that the desk has seen. Its only failure is want of memory, and then nothing has changed.
     fn catch_up(
         &mut self,
         alloc: Global,

@@ -98,7 +98,7 @@ impl<N: HubName> Hub<N> {
             .refresh_all(self.alloc, &self.shared, passes)
     }
 
-    /// Copies what the pass has seen. It fails only where memory is refused.
+    /// Copies what the pass has seen. Its only failure is want of memory.
     pub fn note(&self, pass: &mut Pass<N>) -> Result<Note<N>, AllocError>
         ensures note { IfOk result (λ note. note ≡ seen_of pass.old) }
         ensures same { pass.new ≡ pass.old }

@@ -18,7 +18,7 @@ use px_workload::{Journal, live_filters_are_in_order};
 use std::alloc::{AllocError, Global};
 use std::sync::Arc;
 
-/// The machine of the journal's version. It fails only where memory is refused.
+/// The machine of the journal's version. Its only failure is want of memory.
 pub(crate) fn build(alloc: Global, journal: &Journal) -> Result<Arc<AtVersion>, AllocError>
     ensures { IfOk result (λ c. ((arc_value c).version ≡ length journal.now.changes) × IsBuilt journal.now.changes (arc_value c)) }
 {
@@ -50,7 +50,7 @@ impl<N: HubName> Desk<N> {
         Arc::try_clone(&self.built)
     }
 
-    /// The pass gets the newest version, its program and a bank. It fails only where memory is refused, and then nothing has changed.
+    /// The pass gets the newest version, its program and a bank. Its only failure is want of memory, and then nothing has changed.
     pub(crate) fn refresh(
         &mut self,
         alloc: Global,

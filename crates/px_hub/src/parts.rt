@@ -35,7 +35,7 @@ pub struct Parts {
 }
 
 impl Parts {
-    /// Makes the table, and gives the desk's seat. It fails only where memory is refused.
+    /// Makes the table, and gives the desk's seat. Its only failure is want of memory.
     pub fn new(alloc: Global, config: Config) -> Result<Parts, AllocError>
         requires valid { IsValid config }
         ensures parts { IfOk result (λ p. (p.passes ≡ config.passes) × (p.shared.shape ≡ shape_of config)) }
@@ -107,7 +107,7 @@ fn open_desk<N: HubName>(
 }
 
 impl<N: HubName> Hub<N> {
-    /// Makes the hub of these parts, and its passes. It fails only where memory is refused.
+    /// Makes the hub of these parts, and its passes. Its only failure is want of memory.
     pub fn create(parts: Parts) -> Result<(Hub<N>, Vec<Pass<N>>), AllocError>
         requires table { N.table ≡ parts.shared }
         requires passes { N.passes ≡ parts.passes }

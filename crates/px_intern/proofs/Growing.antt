@@ -155,10 +155,6 @@ module _ {E : Type 0} (right : List E → Op → Operand → Operand → List �
   kept_back k n p x q y v w e none h =
       (h.0, sym (ap (λ (u : View E). get_elem? u.touch.kept h.0) e ∙ ap (λ (t : Bool). get_elem? (cond t v.touch.kept (found k n p x ∷ v.touch.kept)) h.0) (eq-eqb x 0 none)) ∙ h.1)
 
--- the word found is the node word that was sought
-pub same_word : (e t x : ℕ) → Small e → Small t → key_of x ≡ key_of (node_word e t) → x % 1048576 ≡ 0 → x ≡ node_word e t
-same_word e t x se st key low = omega arith
-
 module _ {E : Type 0} where
   -- a step of a seat that is where it was
   pub looked_at : (u v w : View E) (p x : ℕ) → v.stay ≡ u.stay → Looked (bank_in v.stay.place) (version_in v.stay.place) p v x w → Looked (bank_in u.stay.place) (version_in u.stay.place) p v x w

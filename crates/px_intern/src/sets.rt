@@ -51,7 +51,7 @@ fn intern_rising<L: Law>(shared: &Shared<L>, seat: &mut Seat<L>, elements: &[u32
     Intern::Number(number)
 }
 
-/// The set that a number stands for. The number is one that the seat was told. It fails only where memory is refused.
+/// The set that a number stands for. The number is one that the seat was told. Its only failure is want of memory.
 pub fn set_of<L: Law>(
     alloc: Global,
     shared: &Shared<L>,

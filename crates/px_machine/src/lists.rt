@@ -89,8 +89,8 @@ impl Lists {
     }
 
     /// A number for a list: that of an equal one, if it is found, or else the next. It takes memory
-    /// for a new one, and fails only where that is refused, or no number is left; the lists are then
-    /// as before.
+    /// for a new one, and fails at want of memory, or where no number is left; the lists are then as
+    /// before.
     pub fn keep(&mut self, list: &[u32]) -> Result<u32, AllocError>
         ensures kept { IfOk result (λ n. (n < length self.new.lists) × (row self.new.lists n ≡ list.now)) }
         ensures only { IsSameOrMore self.old.lists list.now self.new.lists }

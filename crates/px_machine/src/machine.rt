@@ -49,7 +49,7 @@ pub struct Machine {
 impl Machine {
     /// A machine before the first event of a document, which remembers at most 134,217,728 bytes
     /// from one document to the next. It takes memory for a few open elements and a short text, and
-    /// fails only where that is refused.
+    /// its only failure is want of memory.
     pub fn new(alloc: Global, program: Arc<Program>) -> Result<Machine, AllocError>
         ensures new { IfOk result (λ machine. HasRun machine (arc_value program) []) }
         ensures bound { IfOk result (λ machine. bound_of machine ≡ 134_217_728) }

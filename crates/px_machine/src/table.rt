@@ -81,7 +81,7 @@ impl Table {
         None
     }
 
-    /// Tells it an answer. It takes memory for it, and fails only where that is refused; it then
+    /// Tells it an answer. It takes memory for it, and its only failure is want of memory; it then
     /// knows no more than before.
     pub fn tell(
         &mut self,

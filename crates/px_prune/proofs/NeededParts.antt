@@ -2,7 +2,6 @@
 use Rattle.std.proofs.Common.{◌≡◌, ℕ, zero, suc, ◌+◌, ◌<◌, ◌≤◌, Bool, true, false, ◌||◌, ◌&&◌, cond, List, [], ◌∷◌, ◌++◌, length, take, get_or, refl, sym, ◌∙◌, ap, arith, nat_eq, nat_lt, Some}
 use Rattle.std.specs.List.{list_any}
 use Rattle.std.proofs.lemmas.Bool.{ne_eqb, lt-ltb}
-use Rattle.std.proofs.lemmas.List.{take_all}
 use Rattle.std.proofs.lemmas.List.Folds.{list_any-append}
 use Rattle.px_text.specs.Sets.{has}
 use Rattle.px_afa.specs.declared.state.Body.TheVariants as body
@@ -66,10 +65,6 @@ parts_added states parts first old new i k less so_far added =
     ∙ (ap (λ z. z || needs states (get_or parts i 0) k) so_far
     ∙ (or_assoc (has first k) (list_any (λ p. needs states p k) (take i parts)) (needs states (get_or parts i 0) k)
     ∙ ap (λ z. has first k || z) (sym (any_more (λ p. needs states p k) parts i less))))
-
-pub all_parts : (states : List State) (parts first old : List ℕ) (i k : ℕ) → length parts ≤ i →
-    has old k ≡ (has first k || list_any (λ p. needs states p k) (take i parts)) → has old k ≡ (has first k || list_any (λ p. needs states p k) parts)
-all_parts states parts first old i k all so_far = so_far ∙ ap (λ z. has first k || list_any (λ p. needs states p k) z) (take_all i parts all)
 
 -- what passes only below a size
 pub below_size : (size k : ℕ) (b : Bool) → (b ≡ true → k < size) → b ≡ (nat_lt k size && b)

@@ -17,7 +17,7 @@ use Rattle.px_afa.specs.Sound.{AreRising, IsSound}
 use Rattle.px_afa.specs.Labels.{names_of, is_element_label, label_meets, label_at}
 use Rattle.px_afa.specs.Tables.{is_met}
 use Rattle.px_afa.specs.Functions.{push}
-use Rattle.px_afa.proofs.Members.{has-numbers_where, or_false, or_assoc}
+use Rattle.px_afa.proofs.Members.{has-numbers_where}
 use Rattle.px_afa.proofs.Needed.{needs-below}
 use Rattle.px_afa.proofs.Found.{state_at-below}
 use Rattle.px_step.proofs.RisingNumbers.{IsSet, states-are}
@@ -25,7 +25,7 @@ use Rattle.px_step.proofs.Popped.{met_there}
 use Rattle.px_step.specs.Popping.{is_lasting}
 use Rattle.px_prune.specs.Needing.{path_need, path_needs, needs_of, is_met_need, is_lasting_need}
 use Rattle.px_prune.proofs.KeptRows.{length-rows_below, rows_below-at}
-use Rattle.px_prune.proofs.NeededParts.{any_more, below_size}
+use Rattle.px_prune.proofs.NeededParts.{below_size}
 
 body_below : (states : List State) (b : Body) (k : ℕ) → body_needs (needs states) b k ≡ true → k < length states
 body_below states body.Always k h = cc
@@ -59,9 +59,6 @@ met_added states needs label p row old new e met at added k =
     is : row ≡ path_need states (state_at states p)
     is = let here = rows_below-at (length states) (λ n. path_need states (state_at states n)) p (met_there states label p met) in let same : slice_get (needs_of states) p ≡ Some row = rw (← e) at in cc
 
-pub not_met : (states : List State) (label p : ℕ) (old : List ℕ) → is_met (label_at states label) (state_at states p) ≡ false → (k : ℕ) → has old k ≡ (has old k || is_met_need states label p k)
-not_met states label p old met k = rw met (sym (or_false (has old k)))
-
 -- what a needed state gives to the child
 one_pushed : (states : List State) (label p k : ℕ) → (is_met_need states label p k || is_lasting_need states label p k) ≡ pushed_state (state_at states p) (label_at states label) (needs states) p k
 one_pushed states label p k = go (state_at states p)
@@ -84,17 +81,6 @@ one_pushed states label p k = go (state_at states p)
     go (Some (state.Not m)) = nothing (is_element_label (names_of states) label) (nat_eq p k)
     go (Some (state.Value r x)) = nothing (is_element_label (names_of states) label) (nat_eq p k)
     go (Some (state.Path axis asked b)) = turn (label_meets (names_of states) label asked && body_needs (needs states) b k) (is_element_label (names_of states) label) (is_below axis) (nat_eq p k)
-
--- the states of a set, one more
-pub pushed_more : (states : List State) (label k : ℕ) (need old one new : List ℕ) (i : ℕ) → i < length need →
-    has old k ≡ list_any (λ p. is_met_need states label p k || is_lasting_need states label p k) (take i need) →
-    has one k ≡ (has old k || is_met_need states label (get_or need i 0) k) → has new k ≡ (has one k || is_lasting_need states label (get_or need i 0) k) →
-    has new k ≡ list_any (λ p. is_met_need states label p k || is_lasting_need states label p k) (take (i + 1) need)
-pushed_more states label k need old one new i less so_far first second =
-    second
-    ∙ (ap (λ z. z || is_lasting_need states label (get_or need i 0) k) (first ∙ ap (λ z. z || is_met_need states label (get_or need i 0) k) so_far)
-    ∙ (or_assoc (list_any (λ p. is_met_need states label p k || is_lasting_need states label p k) (take i need)) (is_met_need states label (get_or need i 0) k) (is_lasting_need states label (get_or need i 0) k)
-    ∙ sym (any_more (λ p. is_met_need states label p k || is_lasting_need states label p k) need i less)))
 
 pushed_below : (states : List State) (label p k : ℕ) → pushed_state (state_at states p) (label_at states label) (needs states) p k ≡ true → k < length states
 pushed_below states label p k h = go (state_at states p) refl h

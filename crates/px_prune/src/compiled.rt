@@ -39,7 +39,7 @@ impl Model for Compiled {
 
 impl Compiled {
     /// The first share of a program, compiled. It takes memory for what the states need, at most
-    /// that of the filters, and fails only where that is refused.
+    /// that of the filters, and its only failure is want of memory.
     pub fn of(alloc: Global, program: Arc<Program>) -> Result<Arc<Compiled>, AllocError>
         ensures program { IfOk result (λ compiled. arc_value compiled ≡ arc_value program) }
     {

@@ -10,7 +10,7 @@ use px_text::Set;
 use std::alloc::{AllocError, Global};
 
 /// The first states of all filters, which are needed of a document. It takes memory for them, and
-/// fails only where that is refused.
+/// its only failure is want of memory.
 pub fn first(alloc: Global, program: &Program) -> Result<Set, AllocError>
     ensures firsts { IfOk result (λ set. set ≡ first_set program.now.firsts) }
 {

@@ -12,7 +12,7 @@ use px_text::Set;
 use std::alloc::{AllocError, Global};
 
 /// The states that are needed inside a child with this label where `need` holds those that are
-/// needed of its parent. It takes memory for them, and fails only where that is refused.
+/// needed of its parent. It takes memory for them, and its only failure is want of memory.
 pub fn push(alloc: Global, compiled: &Compiled, need: &Set, label: u32) -> Result<Set, AllocError>
     ensures pushed { IfOk result (λ inside. inside ≡ pushed compiled.now.states need.now label) }
 {

@@ -76,8 +76,8 @@ impl EventList {
         self.marks.clear();
     }
 
-    /// Puts an event behind the others. It fails only where memory is refused, or where the list
-    /// would hold more than 4,294,967,295 bytes; then it is as it was.
+    /// Puts an event behind the others. It fails at want of memory, or where the list would
+    /// hold more than 4,294,967,295 bytes; then it is as it was.
     pub fn push(&mut self, next: Happening<'_>) -> Result<(), AllocError>
         ensures ok { OnOk result (self.new ≡ self.old ++ event_of next.entry ∷ []) }
         ensures err { OnErr result (self.new ≡ self.old) }

@@ -37,7 +37,7 @@ impl Judge {
     ghost use Rattle.px_reader.specs.Progressing.{progress, state_apart};
     ghost use Rattle.px_reader.specs.States.{Judging};
 
-    /// Before the first document. It fails only where memory is refused.
+    /// Before the first document. Its only failure is want of memory.
     pub fn new(alloc: Global) -> Result<Judge, AllocError>
         ensures { IfOk result (λ judge. HasRead (progress judge) [] []) }
     {

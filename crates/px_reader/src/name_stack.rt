@@ -56,7 +56,7 @@ impl NameStack {
         self.starts.len()
     }
 
-    /// Puts a name behind the others. It fails only where memory is refused.
+    /// Puts a name behind the others. Its only failure is want of memory.
     pub fn push(&mut self, name: &[u8]) -> Result<(), AllocError>
         ensures ok { OnOk result (self.new ≡ name.now ∷ self.old) }
         ensures err { OnErr result (self.new ≡ self.old) }

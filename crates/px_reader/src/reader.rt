@@ -27,7 +27,7 @@ impl Reader {
     ghost use Rattle.px_reader.specs.Reading.{HasRead, HasFailed, ReadsPart, GivesMore, FailsBy, EndsWhole, FailsAtEnd, IsClosed, IsStillOpen};
     ghost use Rattle.px_reader.specs.Bringing.{Appends, StopsBy, StopsAtEnd, StaysSmall};
 
-    /// A reader before its first document. It fails only where memory is refused.
+    /// A reader before its first document. Its only failure is want of memory.
     pub fn new(alloc: Global) -> Result<Reader, AllocError>
         ensures { IfOk result (λ reader. HasRead reader [] []) }
     {

@@ -49,7 +49,7 @@ impl<L: Law> Model for Seat<L> {
 }
 
 impl<L: Law> Shared<L> {
-    /// Makes the words, all 0, and gives the desk's seat. It fails only where memory is refused.
+    /// Makes the words, all 0, and gives the desk's seat. Its only failure is want of memory.
     pub fn create(alloc: Global, shape: Shape) -> Result<(Shared<L>, Seat<L>), AllocError>
         requires shape { IsShape shape }
         ensures shape { IfOk result (λ t. t.0.shape ≡ shape) }

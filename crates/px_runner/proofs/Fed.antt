@@ -10,12 +10,8 @@ use Rattle.px_afa.specs.Contents.{Content, Empty, Leaf, Element, leaf_text, char
 use Rattle.px_afa.specs.Building.{Automata}
 use Rattle.px_afa.specs.Machine.{machine_of, gathered_of, after_element}
 use Rattle.px_afa.specs.Steps as steps
-use Rattle.px_afa.specs.Steps.{Step, label_of, leaf_steps, start_steps, run_from, run_of}
+use Rattle.px_afa.specs.Steps.{Step, leaf_steps, start_steps, run_from, run_of}
 use Rattle.px_runner.specs.Events.{Open, Opened, after_leaf, after_start, after_event, event_steps, after_events, events_steps, ground}
-
-leaf_event : Option (List ℕ) → List ℕ → Event
-leaf_event None value = Text value
-leaf_event (Some name) value = Attr name value
 
 -- the events of some content, in order
 abbrev content_events : Content → List Event

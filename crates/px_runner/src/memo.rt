@@ -16,8 +16,8 @@ use std::alloc::AllocError;
 
 /// What makes the steps of the machine for one program, and may remember them. Its values stand
 /// for sets of states. On every answer it goes on working for the same program, and each value goes
-/// on standing for its set. Each call takes memory as the memo needs it, and fails only where that
-/// is refused.
+/// on standing for its set. Each call takes memory as the memo needs it, and its only
+/// failure is want of memory.
 pub trait Memo {
     ghost use Rattle.px_runner.specs.declared.held.Held.{Held};
 

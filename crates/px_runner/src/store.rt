@@ -73,7 +73,7 @@ impl Store {
     }
 
     /// A value for a set that is new: the next number, or the set where no number is left. It takes
-    /// memory for the set and a copy of it, and fails only where that is refused.
+    /// memory for the set and a copy of it, and its only failure is want of memory.
     pub fn add(&mut self, set: Set) -> Result<Held, AllocError>
         requires new { (n : ℕ) → slice_get self.old n ≡ Some set → ⊥ }
         ensures stands { IfOk result (λ held. StandsFor self.new held set) }

@@ -10,7 +10,7 @@ use px_text::{Ids, Set};
 use std::alloc::{AllocError, Global};
 
 /// The ids of the filters whose first state is in the set, rising. It takes memory for them, and
-/// fails only where that is refused.
+/// its only failure is want of memory.
 pub fn accept(alloc: Global, program: &Program, set: &Set) -> Result<Ids, AllocError>
     ensures ids { IfOk result (λ ids. ids ≡ accepted program.now.firsts set.now) }
 {

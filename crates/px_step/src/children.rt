@@ -16,8 +16,8 @@ use std::alloc::{AllocError, Global};
 
 /// The states that a child with this label and this set makes true for its parent. It looks at
 /// the states that the set's members guard, at those that the label meets and no state guards,
-/// and for an element at the set. It takes memory for the states, and fails only where that is
-/// refused.
+/// and for an element at the set. It takes memory for the states, and its only failure is want
+/// of memory.
 pub fn pop(alloc: Global, program: &Program, set: &Set, label: u32) -> Result<Set, AllocError>
     ensures popped { IfOk result (λ parent. parent ≡ popped program.now.states set.now label) }
 {

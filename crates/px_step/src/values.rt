@@ -19,7 +19,7 @@ use std::alloc::{AllocError, Global};
 use std::cmp::Ordering;
 
 /// The Value states with a string literal that are true of texts of a text class. It takes memory
-/// for them, and fails only where that is refused.
+/// for them, and its only failure is want of memory.
 pub fn value_text(alloc: Global, program: &Program, class: u32) -> Result<Set, AllocError>
     ensures values { IfOk result (λ set. set ≡ text_values program.now.states class) }
 {
@@ -43,7 +43,7 @@ fn unequal(alloc: Global, program: &Program, class: u32) -> Result<Vec<u32>, All
 }
 
 /// The Value states with a number that are true of texts of a number class. It takes memory for
-/// them, and fails only where that is refused.
+/// them, and its only failure is want of memory.
 pub fn value_number(alloc: Global, program: &Program, class: u32) -> Result<Set, AllocError>
     ensures values { IfOk result (λ set. set ≡ number_values program.now.states class) }
 {

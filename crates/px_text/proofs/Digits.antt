@@ -7,7 +7,7 @@ use Rattle.std.proofs.lemmas.Grind.{pow_more}
 use Rattle.std.proofs.lemmas.Nat.{pow-add}
 use Rattle.std.proofs.lemmas.Bool.{cases_lt}
 use Rattle.std.proofs.lemmas.Bool.Decides.{nat_tests}
-use Rattle.std.proofs.lemmas.List.{map-append, map_push, take_more, take_all, drop_all, take-append-le, drop-append-le}
+use Rattle.std.proofs.lemmas.List.{map-append, map_push, take_more, take_all, take-append-le, drop-append-le}
 use Rattle.std.proofs.lemmas.Int.Digits.{number_after_append, number_push}
 use Rattle.px_text.specs.Names.{is_digit}
 use Rattle.px_text.specs.Numbers.{value}
@@ -94,12 +94,6 @@ short_value ds d h =
     let before : take 18 ds ≡ ds = take_all 18 ds (omega arith) in
     let with : take 18 (ds ++ d ∷ []) ≡ ds ++ d ∷ [] = take_all 18 (ds ++ d ∷ []) (omega (arith, length-append ds (d ∷ []))) in
     rw (before, with) (sym (value_push ds d))
-
-pub short_rest : (ds : List ℕ) (d : ℕ) → length ds < 18 → value (drop 18 ds) ≡ value (drop 18 (ds ++ d ∷ []))
-short_rest ds d h =
-    let before : drop 18 ds ≡ [] = drop_all 18 ds (omega arith) in
-    let with : drop 18 (ds ++ d ∷ []) ≡ [] = drop_all 18 (ds ++ d ∷ []) (omega (arith, length-append ds (d ∷ []))) in
-    rw (before, with) refl
 
 -- behind them only whether it is 0 counts
 pub long_value : (ds : List ℕ) (d : ℕ) → 18 ≤ length ds → value (take 18 ds) ≡ value (take 18 (ds ++ d ∷ []))

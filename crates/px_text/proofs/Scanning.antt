@@ -75,9 +75,6 @@ pub fraction_ends : (is_negative : Bool) (whole fraction : List ℕ) (b : ℕ) (
     numeral_if is_negative whole (Some (fraction ++ front is_digit (b ∷ rest))) (past is_digit (b ∷ rest)) ≡ numeral_if is_negative whole (Some fraction) (b ∷ rest)
 fraction_ends is_negative whole fraction b rest n = rw n (ap (λ ds. numeral_if is_negative whole (Some ds) (b ∷ rest)) (append-nil fraction))
 
-pub first_white : (b : ℕ) (rest : List ℕ) → is_white b ≡ true → numeral (b ∷ rest) ≡ numeral rest
-first_white b rest w = rw w refl
-
 pub first_other : (b : ℕ) (rest : List ℕ) → is_white b ≡ false → (b == 45) ≡ false → numeral (b ∷ rest) ≡ unsigned false (b ∷ rest)
 first_other b rest w m = rw (w, m) refl
 

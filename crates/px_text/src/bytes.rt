@@ -24,7 +24,7 @@ impl Model for Bytes {
 }
 
 impl Bytes {
-    /// A copy of a text. It takes memory for the text, and fails only where that is refused.
+    /// A copy of a text. It takes memory for the text, and its only failure is want of memory.
     pub fn of(alloc: Global, text: &[u8]) -> Result<Bytes, AllocError>
         ensures copies { IfOk result (λ bytes. bytes ≡ text.now) }
     {

@@ -38,7 +38,7 @@ impl Set {
         }
     }
 
-    /// The set of these numbers, which rise. It takes memory for them, and fails only where that is refused.
+    /// The set of these numbers, which rise. It takes memory for them, and its only failure is want of memory.
     pub fn of(alloc: Global, numbers: &[u32]) -> Result<Set, AllocError>
         requires rising { Rising numbers.now }
         ensures copies { IfOk result (λ set. set ≡ numbers.now) }

@@ -30,9 +30,6 @@ IsLeft all read left =
     (children : Nodes) (rest : List Event) → all ≡ events children ++ event.End ∷ rest →
     (more : Nodes) × (children ≡ onto read more) × (left ≡ events more ++ event.End ∷ rest)
 
-pub left_first : (all : List Event) → IsLeft all [] all
-left_first all children rest e = (children, refl, e)
-
 pub left_text : (all : List Event) (read : List Node) (text : List ℕ) (behind left : List Event) → behind ≡ event.Text text ∷ left →
     IsLeft all read behind → IsLeft all (read ++ Text text ∷ []) left
 left_text all read text behind left e inv children rest is = let (more, a, b) = inv children rest is in cases more a (sym e ∙ b)

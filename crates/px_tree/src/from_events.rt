@@ -15,8 +15,8 @@ use px_text::{Attribute, Bytes};
 use sqlite_items::Items;
 use std::alloc::{AllocError, Global};
 
-/// The tree of a document's events. It takes memory for the tree, and fails only where that is
-/// refused.
+/// The tree of a document's events. It takes memory for the tree, and its only failure is want
+/// of memory.
 pub fn build(alloc: Global, events: &[Event]) -> Result<Tree, AllocError>
     requires of_a_tree { (root : Root) × (events.now ≡ spelling.events_of root) }
     ensures { (root : Root) → events.now ≡ spelling.events_of root → IfOk result (λ t. trees.tree t ≡ root) }

@@ -162,6 +162,3 @@ pub taken-rises : (version : ℕ) (old new : List Numbered) (c : Change) → Ris
     subscriptions new ≡ after version (subscriptions old) c → AreInOrder new
 taken-rises version old new c r e =
     let P : List Subscription → Type 0 = λ l. Rising (ids l) in subst P (sym e) (after-rises version (subscriptions old) c r)
-
-pub was-in-order : (old : List Numbered) (version : ℕ) → Rising (ids (subscriptions old) ++ version ∷ []) → AreInOrder old
-was-in-order old version r = rising_front (ids (subscriptions old)) version r

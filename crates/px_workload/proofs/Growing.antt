@@ -1,7 +1,6 @@
 -- Histories that grow at their end.
 use Rattle.std.proofs.Common.{◌≡◌, ℕ, ◌+◌, ◌≤◌, List, [], ◌∷◌, ◌++◌, length, refl, subst, arith, ap, sym, append-nil}
-use Rattle.px_xpath.specs.Histories.{Change, Adds, Drops, Replaces, Subscription, after, live, live_from, live_size, NamesLive, AllMayCome}
-use Rattle.px_workload.specs.Slots.{kept, added}
+use Rattle.px_xpath.specs.Histories.{Change, Subscription, after, live, live_from, live_size, NamesLive, AllMayCome}
 
 -- what is live behind one change more
 pub live_from-grows : (version : ℕ) (before : List Subscription) (changes : List Change) (c : Change) (n : ℕ) → n ≡ version + length changes + 1 →
@@ -23,12 +22,6 @@ last_may_come version before [] c n e h =
     (h.0, subst P same h.1)
 last_may_come version before (x ∷ changes) c n e h =
     last_may_come (version + 1) (after (version + 1) before x) changes c n (omega arith) h.2
-
--- what is live behind a change: what it leaves, and what it adds
-pub after-kept-added : (version : ℕ) (before : List Subscription) (c : Change) → after version before c ≡ kept c before ++ added version c
-after-kept-added version before (Adds who f) = refl
-after-kept-added version before (Drops who id) = sym (append-nil _)
-after-kept-added version before (Replaces who id new) = sym (append-nil _)
 
 -- a change that may come last
 pub may_come_last : (version : ℕ) (before : List Subscription) (changes : List Change) (c : Change) (n : ℕ) → n ≡ version + length changes + 1 →

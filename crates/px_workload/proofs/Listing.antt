@@ -178,12 +178,6 @@ listed-next slots at id slot h is e =
     ap (λ n. listed (take n slots)) (add-one at) ∙ ap listed (take-suc slots at slot h ∙ ap (λ s. take at slots ++ s ∷ []) (sym is))
     ∙ listed_from-grows 0 (take at slots) slot id (let shorter = length-take at slots in omega arith)
 
--- what a change keeps, slot by slot
-pub kept-none : (c : Change) → kept c [] ≡ []
-kept-none (Adds who f) = refl
-kept-none (Drops who id) = refl
-kept-none (Replaces who id new) = refl
-
 pub kept-append : (c : Change) (xs ys : List Subscription) → kept c (xs ++ ys) ≡ kept c xs ++ kept c ys
 kept-append (Adds who f) xs ys = refl
 kept-append (Drops who id) xs ys = filter-append _ xs ys

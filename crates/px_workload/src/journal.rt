@@ -192,7 +192,7 @@ impl Journal {
     }
 
     /// The filters that would be live behind a change that may come next, in the order of their ids.
-    /// It takes memory for the list alone, and fails only where that is refused.
+    /// It takes memory for the list alone, and its only failure is want of memory.
     pub fn snapshot_after(&self, alloc: Global, change: &Change) -> Result<Live, AllocError>
         requires legal { histories.IsLegal (changes.history (self.now.changes ++ change.now ∷ [])) }
         ensures live { IfOk result (λ live. subscriptions live.filters ≡ histories.live (changes.history (self.now.changes ++ change.now ∷ []))) }

@@ -1,6 +1,7 @@
 pub mod FilterViews
 pub mod Machine
 pub mod Rows
+pub mod TokenMachine
 pub mod Values
 pub mod Fronts
 pub mod Names

@@ -14,24 +14,10 @@ pub ways_grow : (done : List Step) (s : Step) (onward : Way) → ways_onto (done
 ways_grow [] s onward = refl
 ways_grow (d ∷ done) s onward = ap (StepThen d.axis d.test (conditions d.conds)) (ways_grow done s onward)
 
-pub only_each : (members rest : List Cond) (only : Cond) → length members ≡ 1 → members ≡ rest ++ only ∷ [] → condition only ≡ each_of (conditions members)
-only_each [] rest only l e = absurd (omega arith)
-only_each (c ∷ []) [] only l e = let same : c ≡ only = cc in ap condition (sym same)
-only_each (c ∷ []) (d ∷ []) only l e = absurd (cc)
-only_each (c ∷ []) (d ∷ x ∷ rest) only l e = absurd (cc)
-only_each (c ∷ d ∷ members) rest only l e = absurd (omega arith)
-
 pub several_each : (members : List Cond) → ¬ (length members ≡ 1) → EachOf (conditions members) ≡ each_of (conditions members)
 several_each [] n = refl
 several_each (c ∷ []) n = absurd (n refl)
 several_each (c ∷ d ∷ members) n = refl
-
-pub only_some : (members rest : List Cond) (only : Cond) → length members ≡ 1 → members ≡ rest ++ only ∷ [] → condition only ≡ some_of (conditions members)
-only_some [] rest only l e = absurd (omega arith)
-only_some (c ∷ []) [] only l e = let same : c ≡ only = cc in ap condition (sym same)
-only_some (c ∷ []) (d ∷ []) only l e = absurd (cc)
-only_some (c ∷ []) (d ∷ x ∷ rest) only l e = absurd (cc)
-only_some (c ∷ d ∷ members) rest only l e = absurd (omega arith)
 
 pub several_some : (members : List Cond) → ¬ (length members ≡ 1) → SomeOf (conditions members) ≡ some_of (conditions members)
 several_some [] n = refl

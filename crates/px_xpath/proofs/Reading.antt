@@ -8,18 +8,17 @@ use Rattle.px_xpath.specs.declared.filter.Cond.{Cond}
 use Rattle.px_xpath.specs.declared.descent.Bracket.{Bracket}
 use Rattle.px_xpath.specs.declared.descent.Bracket.TheVariants as bracket
 use Rattle.px_xpath.specs.declared.descent.Stop.{Stop}
-use Rattle.px_xpath.specs.declared.descent.Reason.TheVariants.{NotAFilter}
 use Rattle.px_xpath.specs.Filters.{Way, Arrived, StepThen, Condition, Conditions, NoConditions, CondThen}
 use Rattle.px_xpath.specs.Views.{condition, conditions, ways}
 use Rattle.px_xpath.specs.Tokens as tokens
 use Rattle.px_xpath.specs.Tokens.{Token, Placed}
 use Rattle.px_xpath.specs.Faults.{words}
 use Rattle.px_xpath.specs.Grammar.{Stands, last_element, element, no_pred, pred, one_and, ors, last_or, more_ors, one_unary, ands, last_and, more_ands, Phrase, Steps, Preds, Or, Ors, And, Ands, Unary, Relative, separator, element_test}
-use Rattle.px_xpath.specs.Machine.{Around, Whole, Within, Group, Square, Round, State, BeforeStep, BehindElement, BehindLast, BeforeUnary, BehindUnary, step}
-use Rattle.px_xpath.specs.Leads.{Leads, stays, Stops, IsStopped, height_around, height_in, fits}
-use Rattle.px_xpath.specs.Reads.{Takes, TakesElement, ComesNot, Rest, rest_of, conditions_onto, ways_onto, each_of, some_of, is_and, is_or, is_open_square, is_separator, closer, closes, kind, behind_closed, LeadsPast, StopsInside, ReadsUnary, ReadsAnds, ReadsOrs, ReadsClosed, ReadsPreds, ReadsSteps, Compares}
+use Rattle.px_xpath.specs.Machine.{Around, Whole, Within, Group, Square, Round, BeforeStep, BehindElement, BehindLast, BeforeUnary, BehindUnary, step}
+use Rattle.px_xpath.specs.Leads.{Leads, stays, Stops, height_around, height_in, fits}
+use Rattle.px_xpath.specs.Reads.{Takes, TakesElement, ComesNot, Rest, rest_of, conditions_onto, ways_onto, each_of, some_of, is_and, is_or, is_open_square, is_separator, closer, kind, behind_closed, LeadsPast, StopsInside, ReadsUnary, ReadsAnds, ReadsOrs, ReadsClosed, ReadsPreds, ReadsSteps, Compares}
 use Rattle.px_xpath.proofs.Walks.{spelt, move, here, leads_then, stops_behind, one_less, step_on}
-use Rattle.px_xpath.proofs.Stuck.{as_last, no_end}
+use Rattle.px_xpath.proofs.Stuck.{as_last}
 use Rattle.px_xpath.proofs.Phrases.{shallow}
 use Rattle.px_xpath.proofs.Shorter.{shorter_placed, shorter_closed}
 
@@ -126,17 +125,6 @@ closed_reads spare shape members c ts rest behind o f l t = (
   rw (spelt (closer shape) rest behind t) at (joined_or (words ts) (words rest) members c o f),
   λ group h k. leads_then (l group h) (move (BehindUnary group) (behind_closed group) (closer shape) rest behind (close_moves group shape k) (close_fits group shape) t),
 )
-
-end_stuck : (group : Group) (shape : Bracket) (rest : List Placed) → kind group ≡ shape → ComesNot is_and rest → ComesNot is_or rest → ComesNot (closes shape) rest →
-    (end : State) × Leads (BehindUnary group) rest end rest × IsStopped NotAFilter end rest
-end_stuck group shape [] k a o e = (BehindUnary group, here (BehindUnary group) [], refl)
-end_stuck group shape (p ∷ rest) k a o e = (BehindUnary group, here (BehindUnary group) (p ∷ rest), no_end group p.token a o (rw k e))
-
--- the bracket does not close
-pub closed_stops : (spare : ℕ) (shape : Bracket) (ts rest : List Placed) → LeadsPast spare ts rest → ComesNot is_and rest → ComesNot is_or rest → ComesNot (closes shape) rest →
-    (group : Group) → height_in group + spare ≡ 64 → kind group ≡ shape → (end : State) × Leads (BeforeUnary group) ts end rest × IsStopped NotAFilter end rest
-closed_stops spare shape ts rest l a o e group h k =
-    let (end, m, s) = end_stuck group shape rest k a o e in (end, leads_then (l group h) m, s)
 
 square_opens : (spare left : ℕ) (ts inside : List Placed) → Takes tokens.OpenSquare ts inside → left + 1 ≡ spare →
     (around : Around) → height_around around + spare ≡ 64 → Leads (BehindElement around) ts (BeforeUnary (Square around)) inside

@@ -2,9 +2,9 @@
 use Rattle.std.proofs.Common.{◌≡◌, false, None, refl}
 use Rattle.px_xpath.specs.declared.filter.Relation.{Relation}
 use Rattle.px_xpath.specs.declared.descent.Bracket.TheVariants as bracket
-use Rattle.px_xpath.specs.Tokens.{Token, Slash, Slashes, OpenSquare, CloseSquare, Open, Close, At, Star, Dot, Minus, Related, Quoted, Numeric, NameTest, AndWord, OrWord, NotWord, TextWord}
-use Rattle.px_xpath.specs.Machine.{Around, Within, Group, Square, Round, BeforeStep, BehindAt, BehindText, BehindTextOpen, BehindElement, BehindLast, BeforeUnary, BehindNot, BehindDot, BehindRelation, BehindMinus, BehindUnary, step}
-use Rattle.px_xpath.specs.Reads.{is_name_test, is_open, is_numeric, begins_step, begins_operand, begins_condition, closes, is_separator, is_open_square, is_related, is_and, is_or, kind}
+use Rattle.px_xpath.specs.Tokens.{Token, Slash, Slashes, OpenSquare, Open, Close, At, Star, Dot, Minus, Related, Quoted, Numeric, NameTest, NotWord, TextWord}
+use Rattle.px_xpath.specs.Machine.{Around, Within, Group, Round, BeforeStep, BehindAt, BehindText, BehindTextOpen, BehindElement, BehindLast, BeforeUnary, BehindNot, BehindDot, BehindRelation, BehindMinus, BehindUnary, step}
+use Rattle.px_xpath.specs.Reads.{is_name_test, is_open, is_numeric, begins_step, begins_operand, begins_condition, closes, is_separator, is_open_square, is_related}
 
 pub no_attribute : (around : Around) (t : Token) → is_name_test t ≡ false → step (BehindAt around) t ≡ None
 no_attribute around Star e = absurd (cc)
@@ -63,12 +63,3 @@ as_last around OpenSquare e f = absurd (cc)
 as_last around Slash e f = absurd (cc)
 as_last around Slashes e f = absurd (cc)
 as_last around _ e f = refl
-
--- behind a condition in a bracket without an operator only its end may come
-pub no_end : (group : Group) (t : Token) → is_and t ≡ false → is_or t ≡ false → closes (kind group) t ≡ false → step (BehindUnary group) t ≡ None
-no_end group AndWord a o e = absurd (cc)
-no_end group OrWord a o e = absurd (cc)
-no_end (Square around) CloseSquare a o e = absurd (cc)
-no_end (Round group) Close a o e = absurd (cc)
-no_end (Square around) _ a o e = refl
-no_end (Round group) _ a o e = refl

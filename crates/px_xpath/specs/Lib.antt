@@ -15,5 +15,4 @@ pub mod Reads
 pub mod Parses
 pub mod Proper
 pub mod Whole
-pub mod Values
 pub mod Subscribed

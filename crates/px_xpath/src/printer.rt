@@ -18,7 +18,7 @@ pub enum Joint {
     Either,
 }
 
-/// The filter's printed form, which `parse` reads back. It fails only where memory is refused.
+/// The filter's printed form, which `parse` reads back. Its only failure is want of memory.
 pub fn print(alloc: Global, filter: &Filter) -> Result<Bytes, AllocError>
     ensures { IfOk result (λ bytes. bytes ≡ printed.printed (whole.filter filter.now)) }
 {

@@ -325,7 +325,7 @@ fn next_token<'a>(
 }
 
 /// The tokens of a text, from the left. Each takes a byte at least, so there are at most as many
-/// as the text has bytes. It takes memory for them, and fails only where that is refused.
+/// as the text has bytes. It takes memory for them, and its only failure is want of memory.
 pub fn tokens_of<'a>(alloc: Global, text: &'a [u8]) -> Result<Vec<Placed<'a>>, AllocError>
     requires { length text.now ≤ 4096 }
     ensures { IfOk result (λ found. all_placed found.items ≡ tokens.tokens text.now) }

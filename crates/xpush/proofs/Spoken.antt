@@ -2,14 +2,13 @@
 use Rattle.std.proofs.Common.{◌≡◌, ℕ, ◌+◌, ◌||◌, Bool, true, false, List, [], ◌∷◌, ◌++◌, length, take, Option, IsTrue, refl, ap, sym, ◌∙◌, subst, append_assoc, append-nil}
 use Rattle.std.specs.List.{list_any}
 use Rattle.std.proofs.lemmas.Grind.{flat_map-append}
-use Rattle.std.proofs.lemmas.List.Folds.{list_any-append}
 use Rattle.std.proofs.Math.Seq.{take-append-add, take-append_seam}
 use Rattle.px_io.specs.Flows.{AddsTo}
-use Rattle.px_io.proofs.Flowing.{adds_both, adds_nothing}
+use Rattle.px_io.proofs.Flowing.{adds_both}
 use Rattle.px_feed.specs.declared.line.OutLine.{OutLine}
 use Rattle.px_feed.specs.declared.status.Status.{Status}
 use Rattle.px_feed.specs.declared.status.Status.TheVariants.{Done, Refused, Usage, ReadFault, WriteFault, Memory}
-use Rattle.px_feed.specs.Lines.{line_text, is_refusal}
+use Rattle.px_feed.specs.Lines.{line_text}
 use Rattle.px_feed.specs.Outputs.{text_of}
 use Rattle.xpush.specs.declared.outgoing.Outgoing.{Outgoing}
 use Rattle.xpush.specs.Fronts.{AddsFront}
@@ -17,28 +16,6 @@ use Rattle.xpush.specs.Waiting.{HasSaid, IsCut, Closes, Breaks}
 
 not_true : IsTrue false → ⊥
 not_true t = absurd (cc)
-
--- nothing is said
-pub said_nothing : (outgoing : Outgoing) (held : Option (List ℕ)) → outgoing.pending.items ≡ [] → outgoing.refused ≡ false → HasSaid outgoing held held []
-said_nothing outgoing held e f = record { written = []; added = adds_nothing held; waits = e; refused = f }
-
--- a line more that waits
-pub said_more : (old new : Outgoing) (held now : Option (List ℕ)) (lines : List OutLine) (line : OutLine) (text : List ℕ) → text ≡ line_text line →
-    new.pending.items ≡ old.pending.items ++ text → new.refused ≡ (old.refused || is_refusal line) → (s : HasSaid old held now lines) →
-    HasSaid new held now (lines ++ line ∷ [])
-said_more old new held now lines line text e p r s = record {
-  written = s.written;
-  added = s.added;
-  waits =
-      ap (λ rest. s.written ++ rest) p ∙ sym (append_assoc s.written old.pending.items text) ∙ ap (λ front. front ++ text) s.waits
-      ∙ ap (λ rest. text_of lines ++ rest) (e ∙ sym (append-nil (line_text line)))
-      ∙ sym (flat_map-append line_text lines (line ∷ []));
-  refused = r ∙ ap (λ b. b || is_refusal line) s.refused ∙ ap (λ b. list_any is_refusal lines || b) (sym (or_false (is_refusal line))) ∙ sym (list_any-append is_refusal lines (line ∷ []));
-}
-  where
-    or_false : (b : Bool) → (b || false) ≡ b
-    or_false true = refl
-    or_false false = refl
 
 -- what is written is a front of these lines and those behind them
 pub written_so_far : (outgoing : Outgoing) (held now : Option (List ℕ)) (lines more : List OutLine) → (s : HasSaid outgoing held now lines) →

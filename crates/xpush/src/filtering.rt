@@ -16,7 +16,7 @@ use std::alloc::AllocError;
 
 /// The ids of the filters of the machine's program that the document matches, in the order of the
 /// filters. The machine is then before the next document. It takes memory for what the machine
-/// remembers and for the ids, and fails only where that is refused.
+/// remembers and for the ids, and its only failure is want of memory.
 pub fn ids_on(machine: &mut Machine, doc: &Doc) -> Result<Ids, AllocError>
     requires ready { (program : Automata) × HasRun machine.old program [] }
     ensures ids { (live : List numbered.Numbered) (root : Root) → HasRun machine.old (automata (subscriptions live)) [] → IsOf doc.now root →

@@ -14,7 +14,7 @@ use px_text::Ids;
 use std::alloc::AllocError;
 
 /// Gives the machine the events that come next, in order. It takes memory as the machine needs it,
-/// and fails only where that is refused. The machine may then only be dropped, or restarted.
+/// and its only failure is want of memory. The machine may then only be dropped, or restarted.
 pub fn take_all(machine: &mut Machine, events: &[Event]) -> Result<(), AllocError>
     requires begun { (program : Automata) × (given : List Happened) × HasRun machine.old program given }
     ensures ok { OnOk result ((program : Automata) (given : List Happened) → HasRun machine.old program given → HasRun machine.new program (given ++ events.now)) }

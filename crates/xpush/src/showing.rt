@@ -36,7 +36,7 @@ pub fn show_filter<K: Sink>(alloc: Global, filter: &[u8], sink: &mut K) -> Statu
     }
 }
 
-/// What is written for a filter's text. It fails only where memory is refused.
+/// What is written for a filter's text. Its only failure is want of memory.
 fn answer_to(alloc: Global, filter: &[u8]) -> Result<Answer, AllocError>
     ensures out { IfOk result (λ answer. OutShow filter.now answer.text answer.status) }
     ensures finished { IfOk result (λ answer. IsTrue (is_finished answer.status)) }

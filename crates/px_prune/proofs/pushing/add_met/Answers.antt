@@ -3,7 +3,7 @@ use Rattle.px_afa.specs.Building.{Automata}
 use Rattle.px_afa.specs.Labels.{label_at}
 use Rattle.px_afa.specs.Tables.{is_met}
 use Rattle.px_afa.specs.Truth.{state_at}
-use Rattle.px_prune.proofs.Pushed.{met_row, met_added, not_met}
+use Rattle.px_prune.proofs.Pushed.{met_row, met_added}
 use Rattle.px_prune.proofs.pushing.add_met.Goals as goal
 
 pub of-requires : goal.of-requires

@@ -3,7 +3,7 @@ use Rattle.std.proofs.Common.{◌≡◌, Err, refl, ◌∙◌}
 use Rattle.px_reader.specs.declared.fault.DocFault.{DocFault}
 use Rattle.px_tree.specs.Trees.{tree}
 use Rattle.px_document.specs.declared.stop.Stop.TheVariants as stop
-use Rattle.px_document.proofs.Coming.{all_events, tree_verdict, verdict_at_end, stopped_by_doc, stopped_by_reader, refused_for_memory}
+use Rattle.px_document.proofs.Coming.{all_events, tree_verdict, verdict_at_end, stopped_by_doc, refused_for_memory}
 use Rattle.px_document.proofs.document.Document.finish.Goals as goal
 
 pub tree_of-requires : goal.tree_of-requires
