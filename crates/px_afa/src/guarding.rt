@@ -50,18 +50,11 @@ fn guard_of(older: &[State], guards: &[Option<u32>], n: u32, state: &State) -> O
     ensures it { result ≡ tables.guard_state state.now n (λ g. tables.is_rare (state_at (newest older.now) g)) (tables.guard_of (newest older.now)) }
 {
     match state {
-        State::Path {
-            axis: _,
-            test: _,
-            body: _,
-        } => Some(n),
-        State::Value {
-            relation: _,
-            value: _,
-        } => Some(n),
+        State::Path { .. } => Some(n),
+        State::Value { .. } => Some(n),
         State::And { parts } => guard_of_parts(older, guards, parts.as_slice()),
-        State::Or { parts: _ } => None,
-        State::Not { part: _ } => None,
+        State::Or { .. } => None,
+        State::Not { .. } => None,
     }
 }
 
@@ -117,23 +110,16 @@ fn is_rare(state: &State) -> bool
     ensures it { result ≡ tables.is_rare (Some state.now) }
 {
     match state {
-        State::Path {
-            axis: _,
-            test,
-            body: _,
-        } => match test {
+        State::Path { test, .. } => match test {
             Test::Element(_) => false,
             Test::AnyElement => false,
             Test::Attribute(_) => true,
             Test::AnyAttribute => true,
             Test::Text => true,
         },
-        State::Value {
-            relation: _,
-            value: _,
-        } => true,
-        State::And { parts: _ } => false,
-        State::Or { parts: _ } => false,
-        State::Not { part: _ } => false,
+        State::Value { .. } => true,
+        State::And { .. } => false,
+        State::Or { .. } => false,
+        State::Not { .. } => false,
     }
 }

@@ -52,15 +52,11 @@ impl Literals {
         ensures added { OnOk result ((literals : List (List ℕ)) → AreLiterals self.old literals → AreLiterals self.new (with_literal (state_literal state.now) literals)) }
     {
         match state {
-            State::Value { relation: _, value } => self.add_value(alloc, value),
-            State::Path {
-                axis: _,
-                test: _,
-                body: _,
-            } => Ok(()),
-            State::And { parts: _ } => Ok(()),
-            State::Or { parts: _ } => Ok(()),
-            State::Not { part: _ } => Ok(()),
+            State::Value { value, .. } => self.add_value(alloc, value),
+            State::Path { .. } => Ok(()),
+            State::And { .. } => Ok(()),
+            State::Or { .. } => Ok(()),
+            State::Not { .. } => Ok(()),
         }
     }
 

@@ -94,18 +94,11 @@ impl Names {
         ensures added { OnOk result ((kinds : List Kind) → AreNames self.old kinds → AreNames self.new (with_name (state_name state.now) kinds)) }
     {
         match state {
-            State::Path {
-                axis: _,
-                test,
-                body: _,
-            } => self.add_test(alloc, test),
-            State::And { parts: _ } => Ok(()),
-            State::Or { parts: _ } => Ok(()),
-            State::Not { part: _ } => Ok(()),
-            State::Value {
-                relation: _,
-                value: _,
-            } => Ok(()),
+            State::Path { test, .. } => self.add_test(alloc, test),
+            State::And { .. } => Ok(()),
+            State::Or { .. } => Ok(()),
+            State::Not { .. } => Ok(()),
+            State::Value { .. } => Ok(()),
         }
     }
 

@@ -133,24 +133,17 @@ fn test(names: &Names, state: &State) -> Met
     ensures it { (kinds : List Kind) → AreNames names.now kinds → result ≡ met_of kinds (Some state.now) }
 {
     match state {
-        State::Path {
-            axis: _,
-            test,
-            body: _,
-        } => match test {
+        State::Path { test, .. } => match test {
             Test::Element(name) => Met::Label(names.element(name.as_slice())),
             Test::AnyElement => Met::AnyElement,
             Test::Attribute(name) => Met::Label(names.attribute(name.as_slice())),
             Test::AnyAttribute => Met::AnyAttribute,
             Test::Text => Met::Label(0),
         },
-        State::And { parts: _ } => Met::Nothing,
-        State::Or { parts: _ } => Met::Nothing,
-        State::Not { part: _ } => Met::Nothing,
-        State::Value {
-            relation: _,
-            value: _,
-        } => Met::Nothing,
+        State::And { .. } => Met::Nothing,
+        State::Or { .. } => Met::Nothing,
+        State::Not { .. } => Met::Nothing,
+        State::Value { .. } => Met::Nothing,
     }
 }
 
@@ -172,18 +165,11 @@ fn guard_key(guards: &[Option<u32>], state: &State) -> Option<u32>
     ensures within { (states : List AnyState) → AreGuards guards.now states → IfSome result (λ guard. guard < length states) }
 {
     match state {
-        State::Path {
-            axis: _,
-            test: _,
-            body,
-        } => body_guard(guards, body),
-        State::And { parts: _ } => None,
-        State::Or { parts: _ } => None,
-        State::Not { part: _ } => None,
-        State::Value {
-            relation: _,
-            value: _,
-        } => None,
+        State::Path { body, .. } => body_guard(guards, body),
+        State::And { .. } => None,
+        State::Or { .. } => None,
+        State::Not { .. } => None,
+        State::Value { .. } => None,
     }
 }
 
@@ -234,18 +220,11 @@ fn is_unguarded(guards: &[Option<u32>], state: &State) -> bool
     ensures value { (states : List AnyState) → AreGuards guards.now states → result ≡ tables.is_unguarded states (Some state.now) }
 {
     match state {
-        State::Path {
-            axis: _,
-            test: _,
-            body,
-        } => body_guard(guards, body).is_none(),
-        State::And { parts: _ } => false,
-        State::Or { parts: _ } => false,
-        State::Not { part: _ } => false,
-        State::Value {
-            relation: _,
-            value: _,
-        } => false,
+        State::Path { body, .. } => body_guard(guards, body).is_none(),
+        State::And { .. } => false,
+        State::Or { .. } => false,
+        State::Not { .. } => false,
+        State::Value { .. } => false,
     }
 }
 
@@ -292,24 +271,17 @@ fn tests_any_element(state: &State) -> bool
     ensures value { result ≡ tables.tests_any_element (Some state.now) }
 {
     match state {
-        State::Path {
-            axis: _,
-            test,
-            body: _,
-        } => match test {
+        State::Path { test, .. } => match test {
             Test::AnyElement => true,
             Test::Element(_) => false,
             Test::AnyAttribute => false,
             Test::Attribute(_) => false,
             Test::Text => false,
         },
-        State::And { parts: _ } => false,
-        State::Or { parts: _ } => false,
-        State::Not { part: _ } => false,
-        State::Value {
-            relation: _,
-            value: _,
-        } => false,
+        State::And { .. } => false,
+        State::Or { .. } => false,
+        State::Not { .. } => false,
+        State::Value { .. } => false,
     }
 }
 
@@ -324,23 +296,16 @@ fn tests_any_attribute(state: &State) -> bool
     ensures value { result ≡ tables.tests_any_attribute (Some state.now) }
 {
     match state {
-        State::Path {
-            axis: _,
-            test,
-            body: _,
-        } => match test {
+        State::Path { test, .. } => match test {
             Test::AnyAttribute => true,
             Test::Element(_) => false,
             Test::AnyElement => false,
             Test::Attribute(_) => false,
             Test::Text => false,
         },
-        State::And { parts: _ } => false,
-        State::Or { parts: _ } => false,
-        State::Not { part: _ } => false,
-        State::Value {
-            relation: _,
-            value: _,
-        } => false,
+        State::And { .. } => false,
+        State::Or { .. } => false,
+        State::Not { .. } => false,
+        State::Value { .. } => false,
     }
 }
