@@ -45,7 +45,8 @@ impl Builder {
     /// It takes memory for a new state and a copy of it, and its only failure is want of memory.
     pub fn share(&mut self, state: State) -> Result<u32, AllocError>
         requires few { length self.old < 500_000 }
-        ensures shared { IfOk result (λ n. record { states = self.new; number = n } ≡ share state self.old) }
+        ensures shared { IfOk result (λ n. record { states = self.new; number = n } ≡
+            share state self.old) }
         ensures few { OnOk result (length self.new ≤ length self.old + 1) }
     {
         match self.number_of(&state) {

@@ -6,7 +6,8 @@ use crate::state::State;
 use std::alloc::AllocError;
 
 impl State {
-    /// An equal state. It takes memory for its name, literal or parts, and its only failure is want of memory.
+    /// An equal state. It takes memory for its name, literal or parts, and its only failure is want
+    /// of memory.
     pub(crate) fn copy(&self) -> Result<State, AllocError>
         ensures same { IfOk result (λ copy. copy ≡ self.now) }
     {

@@ -7,7 +7,8 @@ use std::alloc::{AllocError, Global};
 use std::collections::BTreeMap;
 use std::marker::Model;
 
-/// Texts with their numbers. A look-up takes the time of the logarithm of their count, and no memory.
+/// Texts with their numbers. A look-up takes the time of the logarithm of their count, and no
+/// memory.
 #[derive(Drop)]
 pub struct Dictionary {
     numbers: BTreeMap<Vec<u8>, u32>,
@@ -42,7 +43,9 @@ impl Dictionary {
 
     /// Gives a number to a text, of which it keeps a copy. Its only failure is want of memory.
     pub fn put(&mut self, alloc: Global, text: &[u8], number: u32) -> Result<(), AllocError>
-        ensures put { OnOk result ((other : List ℕ) → found self.new other ≡ cond (bytes_eq other text.now) (Some number) (found self.old other)) }
+        ensures put { OnOk result ((other : List ℕ) →
+            found self.new other ≡ cond (bytes_eq other text.now) (Some number)
+            (found self.old other)) }
     {
         let key = Vec::from_slice(alloc, text)?;
         self.numbers.insert(key, number)?;

@@ -24,9 +24,12 @@ pub fn way(
 ) -> Result<Option<u32>, AllocError>
     requires proper { steps_proper (ways steps.now) ≡ true }
     requires room { length builder.old + way_size (ways steps.now) (end_size end) ≤ 500_000 }
-    ensures made { IfOk result (λ part. record { states = builder.new; parts = option_to_list part } ≡ way_made (ways steps.now) (end_of end.entry) builder.old) }
-    ensures count { IfOk result (λ part. length (option_to_list part) ≡ parts_behind (ways steps.now) (end_size end.entry)) }
-    ensures few { OnOk result (length builder.new ≤ length builder.old + way_size (ways steps.now) (end_size end.entry)) }
+    ensures made { IfOk result (λ part. record { states = builder.new; parts = option_to_list part }
+        ≡ way_made (ways steps.now) (end_of end.entry) builder.old) }
+    ensures count { IfOk result (λ part. length (option_to_list part) ≡
+        parts_behind (ways steps.now) (end_size end.entry)) }
+    ensures few { OnOk result (length builder.new ≤
+        length builder.old + way_size (ways steps.now) (end_size end.entry)) }
 {
     match steps {
         [] => end_part(builder, end),
@@ -46,7 +49,7 @@ pub fn way(
     }
 }
 
-/// Puts the states of conditions behind other parts.
+// Puts the states of conditions behind other parts.
 #[cycle(filters)]
 fn condition_parts(
     alloc: Global,
@@ -56,9 +59,12 @@ fn condition_parts(
 ) -> Result<(), AllocError>
     requires proper { all_proper (conditions conds.now) ≡ true }
     requires room { length builder.old + conditions_size (conditions conds.now) ≤ 500_000 }
-    ensures made { OnOk result (record { states = builder.new; parts = parts.new.items } ≡ joined parts.old.items (conditions_made (conditions conds.now) builder.old)) }
-    ensures count { OnOk result (length parts.new.items ≡ length parts.old.items + count_of (conditions conds.now)) }
-    ensures few { OnOk result (length builder.new ≤ length builder.old + conditions_size (conditions conds.now)) }
+    ensures made { OnOk result (record { states = builder.new; parts = parts.new.items } ≡
+        joined parts.old.items (conditions_made (conditions conds.now) builder.old)) }
+    ensures count { OnOk result (length parts.new.items ≡
+        length parts.old.items + count_of (conditions conds.now)) }
+    ensures few { OnOk result (length builder.new ≤
+        length builder.old + conditions_size (conditions conds.now)) }
 {
     match conds {
         [] => Ok(()),
@@ -74,8 +80,10 @@ fn condition_parts(
 fn condition_state(alloc: Global, builder: &mut Builder, cond: &Cond) -> Result<u32, AllocError>
     requires proper { condition_proper (condition cond.now) ≡ true }
     requires room { length builder.old + condition_size (condition cond.now) ≤ 500_000 }
-    ensures made { IfOk result (λ n. record { states = builder.new; number = n } ≡ condition_made (condition cond.now) builder.old) }
-    ensures few { OnOk result (length builder.new ≤ length builder.old + condition_size (condition cond.now)) }
+    ensures made { IfOk result (λ n. record { states = builder.new; number = n } ≡
+        condition_made (condition cond.now) builder.old) }
+    ensures few { OnOk result (length builder.new ≤
+        length builder.old + condition_size (condition cond.now)) }
 {
     match cond {
         Cond::Exists(path) => Ok(only(way(alloc, builder, path.steps.as_slice(), None)?)),
@@ -104,13 +112,14 @@ fn condition_state(alloc: Global, builder: &mut Builder, cond: &Cond) -> Result<
     }
 }
 
-/// The value at the end of a compared path.
+// The value at the end of a compared path.
 fn end_part(
     builder: &mut Builder,
     end: Option<(Relation, &Value)>,
 ) -> Result<Option<u32>, AllocError>
     requires room { length builder.old + end_size end ≤ 500_000 }
-    ensures made { IfOk result (λ part. record { states = builder.new; parts = option_to_list part } ≡ end_made (end_of end.entry) builder.old) }
+    ensures made { IfOk result (λ part. record { states = builder.new; parts = option_to_list part }
+        ≡ end_made (end_of end.entry) builder.old) }
     ensures count { IfOk result (λ part. length (option_to_list part) ≡ end_size end.entry) }
     ensures few { OnOk result (length builder.new ≤ length builder.old + end_size end.entry) }
 {
@@ -128,7 +137,8 @@ fn end_part(
 
 fn push_part(parts: &mut Vec<u32>, part: Option<u32>) -> Result<(), AllocError>
     ensures pushed { OnOk result (parts.new.items ≡ parts.old.items ++ option_to_list part) }
-    ensures count { OnOk result (length parts.new.items ≡ length parts.old.items + length (option_to_list part)) }
+    ensures count { OnOk result (length parts.new.items ≡
+        length parts.old.items + length (option_to_list part)) }
 {
     if let Some(n) = part {
         parts.push(n)?;
@@ -136,10 +146,11 @@ fn push_part(parts: &mut Vec<u32>, part: Option<u32>) -> Result<(), AllocError>
     Ok(())
 }
 
-/// What has to be true at a place for all parts to be.
+// What has to be true at a place for all parts to be.
 fn body_of(alloc: Global, builder: &mut Builder, parts: &[u32]) -> Result<Body, AllocError>
     requires room { length builder.old + joint (length parts.now) ≤ 500_000 }
-    ensures made { IfOk result (λ body. record { states = builder.new; body = body } ≡ body_made parts.now builder.old) }
+    ensures made { IfOk result (λ body. record { states = builder.new; body = body } ≡
+        body_made parts.now builder.old) }
     ensures few { OnOk result (length builder.new ≤ length builder.old + joint (length parts.now)) }
 {
     match parts {

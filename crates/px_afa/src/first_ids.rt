@@ -13,7 +13,8 @@ use std::alloc::{AllocError, Global};
 /// The ids of the filters under their first states. Its only failure is want of memory.
 pub fn ids_by_first(alloc: Global, states: &[State], firsts: &[First]) -> Result<Groups, AllocError>
     requires paths { ArePaths (newest states.now) firsts.now }
-    ensures ids { IfOk result (λ ids. (state : ℕ) → row ids state ≡ accept firsts.now (state ∷ [])) }
+    ensures ids { IfOk result (λ ids. (state : ℕ) →
+        row ids state ≡ accept firsts.now (state ∷ [])) }
 {
     let mut ids = Groups::new(alloc, states.len())?;
     for first in firsts {

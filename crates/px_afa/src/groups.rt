@@ -48,7 +48,8 @@ impl Groups {
     /// Puts a number at the end of the list under a key, if there is a key.
     pub fn put(&mut self, key: Option<u32>, number: u32) -> Result<(), AllocError>
         requires within { IfSome key (λ k. k < length self.old) }
-        ensures put { OnOk result ((other : ℕ) → row self.new other ≡ row self.old other ++ cond (is_key key other) (number ∷ []) []) }
+        ensures put { OnOk result ((other : ℕ) →
+            row self.new other ≡ row self.old other ++ cond (is_key key other) (number ∷ []) []) }
         ensures count { OnOk result (length self.new ≡ length self.old) }
     {
         match key {
@@ -64,7 +65,8 @@ impl Groups {
 
 /// Puts a number at the end of a list, if it is to be there.
 pub fn push_if(list: &mut Vec<u32>, is_wanted: bool, number: u32) -> Result<(), AllocError>
-    ensures pushed { OnOk result (list.new.items ≡ list.old.items ++ cond is_wanted (number ∷ []) []) }
+    ensures pushed { OnOk result (list.new.items ≡ list.old.items ++
+        cond is_wanted (number ∷ []) []) }
 {
     if is_wanted {
         list.push(number)?;

@@ -27,7 +27,8 @@ pub fn guards(alloc: Global, states: &[State]) -> Result<Vec<Option<u32>>, Alloc
 
 /// The guard of what has to be true at a child.
 pub fn body_guard(guards: &[Option<u32>], body: &Body) -> Option<u32>
-    ensures it { (states : List AnyState) → AreGuards guards.now states → result ≡ tables.body_guard states body.now }
+    ensures it { (states : List AnyState) → AreGuards guards.now states →
+        result ≡ tables.body_guard states body.now }
 {
     match body {
         Body::Always => None,
@@ -44,10 +45,11 @@ fn guard_at(guards: &[Option<u32>], n: usize) -> Option<u32>
     }
 }
 
-/// The guard of the next state behind older ones.
+// The guard of the next state behind older ones.
 fn guard_of(older: &[State], guards: &[Option<u32>], n: u32, state: &State) -> Option<u32>
     requires guards { AreGuards guards.now (newest older.now) }
-    ensures it { result ≡ tables.guard_state state.now n (λ g. tables.is_rare (state_at (newest older.now) g)) (tables.guard_of (newest older.now)) }
+    ensures it { result ≡ tables.guard_state state.now n
+        (λ g. tables.is_rare (state_at (newest older.now) g)) (tables.guard_of (newest older.now)) }
 {
     match state {
         State::Path { .. } => Some(n),
@@ -60,7 +62,9 @@ fn guard_of(older: &[State], guards: &[Option<u32>], n: u32, state: &State) -> O
 
 fn guard_of_parts(older: &[State], guards: &[Option<u32>], parts: &[u64]) -> Option<u32>
     requires guards { AreGuards guards.now (newest older.now) }
-    ensures it { result ≡ tables.guard_of_parts (λ g. tables.is_rare (state_at (newest older.now) g)) (tables.guard_of (newest older.now)) parts.now }
+    ensures it { result ≡ tables.guard_of_parts
+        (λ g. tables.is_rare (state_at (newest older.now) g)) (tables.guard_of (newest older.now))
+        parts.now }
 {
     match parts {
         [] => None,
@@ -71,9 +75,10 @@ fn guard_of_parts(older: &[State], guards: &[Option<u32>], parts: &[u64]) -> Opt
     }
 }
 
-/// The first of two guards, unless the second alone is rare.
+// The first of two guards, unless the second alone is rare.
 fn rarer(older: &[State], first: Option<u32>, second: Option<u32>) -> Option<u32>
-    ensures it { result ≡ tables.rarer (λ g. tables.is_rare (state_at (newest older.now) g)) first second }
+    ensures it { result ≡ tables.rarer (λ g. tables.is_rare (state_at (newest older.now) g)) first
+        second }
 {
     match first {
         None => second,
@@ -105,7 +110,7 @@ fn is_rare_at(older: &[State], n: u32) -> bool
     }
 }
 
-/// Whether few nodes have the state in their sets.
+// Whether few nodes have the state in their sets.
 fn is_rare(state: &State) -> bool
     ensures it { result ≡ tables.is_rare (Some state.now) }
 {

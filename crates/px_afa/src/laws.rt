@@ -27,32 +27,42 @@ pub fn labels_and_classes_tell()
 /// although equal states of all filters are one.
 pub fn first_states_are_right()
     ensures live { (live : List Subscription) (root : Root) →
-        true_firsts (automata live).states (automata live).firsts (root_content root) ≡ map (λ s. s.id) (filter (λ s. holds s.filter root) live) }
+        true_firsts (automata live).states (automata live).firsts (root_content root) ≡
+        map (λ s. s.id) (filter (λ s. holds s.filter root) live) }
     ensures behind { (history : List Change) (root : Root) →
-        true_firsts (program history).states (program history).firsts (root_content root) ≡ matches history root }
+        true_firsts (program history).states (program history).firsts (root_content root) ≡
+        matches history root }
 {}
 
 /// A program has at most as many states as its filters have sizes together, and more.
 pub fn programs_are_sound()
-    ensures states { (live : List Subscription) → AreProper live → length (automata live).states ≤ live_size live }
-    ensures sound { (live : List Subscription) → AreLive live → AreProper live → IsSound (automata live) }
+    ensures states { (live : List Subscription) → AreProper live →
+        length (automata live).states ≤ live_size live }
+    ensures sound { (live : List Subscription) → AreLive live → AreProper live →
+        IsSound (automata live) }
 {}
 
 /// Labels and classes are small: below 500,003 and at most 1,000,001 where there are at most
 /// 500,000 states.
 pub fn labels_and_classes_are_small()
-    ensures labels { (states : List State) (kind : Kind) → label_number (names_of states) kind < length states + 3 }
+    ensures labels { (states : List State) (kind : Kind) →
+        label_number (names_of states) kind < length states + 3 }
     ensures texts { (states : List State) (text : List ℕ) → text_class states text ≤ length states }
-    ensures numbers { (states : List State) (text : List ℕ) → number_class states text ≤ 2 * length states + 1 }
+    ensures numbers { (states : List State) (text : List ℕ) →
+        number_class states text ≤ 2 * length states + 1 }
 {}
 
 /// A state, and what has to be true at a child, is true only in sets that have its guard.
 pub fn guards_are_in_sets()
-    ensures body { (states : List State) (set : ℕ → Bool) (body : Body) (guard : ℕ) → body_in (true_in states set) body ≡ true → body_guard states body ≡ Some guard → set guard ≡ true }
-    ensures guard { (states : List State) (set : ℕ → Bool) (n guard : ℕ) → true_in states set n ≡ true → guard_of states n ≡ Some guard → set guard ≡ true }
+    ensures body { (states : List State) (set : ℕ → Bool) (body : Body) (guard : ℕ) →
+        body_in (true_in states set) body ≡ true → body_guard states body ≡ Some guard →
+        set guard ≡ true }
+    ensures guard { (states : List State) (set : ℕ → Bool) (n guard : ℕ) →
+        true_in states set n ≡ true → guard_of states n ≡ Some guard → set guard ≡ true }
 {}
 
 /// The machine makes 8 steps for each element and 6 for each attribute and text.
 pub fn steps_are_counted()
-    ensures count { (history : List Change) (root : Root) → steps_of history root ≡ 8 * elements (root_content root) + 6 * leaves (root_content root) }
+    ensures count { (history : List Change) (root : Root) →
+        steps_of history root ≡ 8 * elements (root_content root) + 6 * leaves (root_content root) }
 {}

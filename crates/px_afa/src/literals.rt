@@ -35,21 +35,24 @@ impl Literals {
 
     /// How many literals there are.
     pub fn count(&self) -> u32
-        ensures count { (literals : List (List ℕ)) → AreLiterals self.now literals → result ≡ length literals }
+        ensures count { (literals : List (List ℕ)) → AreLiterals self.now literals →
+            result ≡ length literals }
     {
         self.count
     }
 
     /// The class of a text: that of the literal which it equals, or 0.
     pub fn class(&self, text: &[u8]) -> u32
-        ensures class { (literals : List (List ℕ)) → AreLiterals self.now literals → result ≡ class_of_text 1 literals text.now }
+        ensures class { (literals : List (List ℕ)) → AreLiterals self.now literals →
+            result ≡ class_of_text 1 literals text.now }
     {
         self.classes.find(text).unwrap_or(0)
     }
 
     fn add(&mut self, alloc: Global, state: &State) -> Result<(), AllocError>
         requires few { self.old.count < 500_000 }
-        ensures added { OnOk result ((literals : List (List ℕ)) → AreLiterals self.old literals → AreLiterals self.new (with_literal (state_literal state.now) literals)) }
+        ensures added { OnOk result ((literals : List (List ℕ)) → AreLiterals self.old literals →
+            AreLiterals self.new (with_literal (state_literal state.now) literals)) }
     {
         match state {
             State::Value { value, .. } => self.add_value(alloc, value),
@@ -62,7 +65,8 @@ impl Literals {
 
     fn add_value(&mut self, alloc: Global, value: &Value) -> Result<(), AllocError>
         requires few { self.old.count < 500_000 }
-        ensures added { OnOk result ((literals : List (List ℕ)) → AreLiterals self.old literals → AreLiterals self.new (with_literal (literal_in value.now) literals)) }
+        ensures added { OnOk result ((literals : List (List ℕ)) → AreLiterals self.old literals →
+            AreLiterals self.new (with_literal (literal_in value.now) literals)) }
     {
         match value {
             Value::Literal(text) => self.add_text(alloc, text.as_slice()),
@@ -72,7 +76,8 @@ impl Literals {
 
     fn add_text(&mut self, alloc: Global, text: &[u8]) -> Result<(), AllocError>
         requires few { self.old.count < 500_000 }
-        ensures added { OnOk result ((literals : List (List ℕ)) → AreLiterals self.old literals → AreLiterals self.new (with_literal (Some text.now) literals)) }
+        ensures added { OnOk result ((literals : List (List ℕ)) → AreLiterals self.old literals →
+            AreLiterals self.new (with_literal (Some text.now) literals)) }
     {
         match self.classes.find(text) {
             Some(_) => Ok(()),

@@ -47,21 +47,24 @@ impl Names {
 
     /// The label of an element's name.
     pub fn element(&self, name: &[u8]) -> u32
-        ensures label { (kinds : List Kind) → AreNames self.now kinds → result ≡ label_number kinds (ElementKind name.now) }
+        ensures label { (kinds : List Kind) → AreNames self.now kinds →
+            result ≡ label_number kinds (ElementKind name.now) }
     {
         self.elements.find(name).unwrap_or(1)
     }
 
     /// The label of an attribute's name.
     pub fn attribute(&self, name: &[u8]) -> u32
-        ensures label { (kinds : List Kind) → AreNames self.now kinds → result ≡ label_number kinds (AttributeKind name.now) }
+        ensures label { (kinds : List Kind) → AreNames self.now kinds →
+            result ≡ label_number kinds (AttributeKind name.now) }
     {
         self.attributes.find(name).unwrap_or(2)
     }
 
     /// Whether the label is an element's.
     pub fn is_element(&self, label: u32) -> bool
-        ensures value { (kinds : List Kind) → AreNames self.now kinds → result ≡ is_element_label kinds label }
+        ensures value { (kinds : List Kind) → AreNames self.now kinds →
+            result ≡ is_element_label kinds label }
     {
         match self.flag(label) {
             Some(is_element) => is_element,
@@ -71,7 +74,8 @@ impl Names {
 
     /// Whether the label is an attribute's.
     pub fn is_attribute(&self, label: u32) -> bool
-        ensures value { (kinds : List Kind) → AreNames self.now kinds → result ≡ is_attribute_label kinds label }
+        ensures value { (kinds : List Kind) → AreNames self.now kinds →
+            result ≡ is_attribute_label kinds label }
     {
         match self.flag(label) {
             Some(is_element) => !is_element,
@@ -91,7 +95,8 @@ impl Names {
 
     fn add(&mut self, alloc: Global, state: &State) -> Result<(), AllocError>
         requires few { vec_len self.old.are_elements < 500_000 }
-        ensures added { OnOk result ((kinds : List Kind) → AreNames self.old kinds → AreNames self.new (with_name (state_name state.now) kinds)) }
+        ensures added { OnOk result ((kinds : List Kind) → AreNames self.old kinds →
+            AreNames self.new (with_name (state_name state.now) kinds)) }
     {
         match state {
             State::Path { test, .. } => self.add_test(alloc, test),
@@ -104,7 +109,8 @@ impl Names {
 
     fn add_test(&mut self, alloc: Global, test: &Test) -> Result<(), AllocError>
         requires few { vec_len self.old.are_elements < 500_000 }
-        ensures added { OnOk result ((kinds : List Kind) → AreNames self.old kinds → AreNames self.new (with_name (tested test.now) kinds)) }
+        ensures added { OnOk result ((kinds : List Kind) → AreNames self.old kinds →
+            AreNames self.new (with_name (tested test.now) kinds)) }
     {
         match test {
             Test::Element(name) => self.add_element(alloc, name.as_slice()),
@@ -117,7 +123,8 @@ impl Names {
 
     fn add_element(&mut self, alloc: Global, name: &[u8]) -> Result<(), AllocError>
         requires few { vec_len self.old.are_elements < 500_000 }
-        ensures added { OnOk result ((kinds : List Kind) → AreNames self.old kinds → AreNames self.new (with_name (Some (ElementKind name.now)) kinds)) }
+        ensures added { OnOk result ((kinds : List Kind) → AreNames self.old kinds →
+            AreNames self.new (with_name (Some (ElementKind name.now)) kinds)) }
     {
         match self.elements.find(name) {
             Some(_) => Ok(()),
@@ -132,7 +139,8 @@ impl Names {
 
     fn add_attribute(&mut self, alloc: Global, name: &[u8]) -> Result<(), AllocError>
         requires few { vec_len self.old.are_elements < 500_000 }
-        ensures added { OnOk result ((kinds : List Kind) → AreNames self.old kinds → AreNames self.new (with_name (Some (AttributeKind name.now)) kinds)) }
+        ensures added { OnOk result ((kinds : List Kind) → AreNames self.old kinds →
+            AreNames self.new (with_name (Some (AttributeKind name.now)) kinds)) }
     {
         match self.attributes.find(name) {
             Some(_) => Ok(()),

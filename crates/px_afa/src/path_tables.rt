@@ -70,7 +70,8 @@ impl PathTables {
 
     /// Whether a label meets the test of a state, which is a Path.
     pub fn is_met(&self, n: u32, label: u32) -> bool
-        ensures value { (states : List AnyState) → ArePathTables self.now states → result ≡ tables.is_met (label_at states label) (state_at states n) }
+        ensures value { (states : List AnyState) → ArePathTables self.now states →
+            result ≡ tables.is_met (label_at states label) (state_at states n) }
     {
         match self.tests.get(n as usize) {
             Some(met) => is_met(&self.names, *met, label),
@@ -80,21 +81,24 @@ impl PathTables {
 
     /// The Path states whose body has a guard.
     pub fn guarded_by(&self, guard: u32) -> &[u32]
-        ensures all { (states : List AnyState) → ArePathTables self.now states → result.now ≡ tables.guarded_by states guard }
+        ensures all { (states : List AnyState) → ArePathTables self.now states →
+            result.now ≡ tables.guarded_by states guard }
     {
         self.guarded.row(guard)
     }
 
     /// The Path states without a guard that test the very name of a label, or texts.
     pub fn unguarded_exactly(&self, label: u32) -> &[u32]
-        ensures all { (states : List AnyState) → ArePathTables self.now states → result.now ≡ tables.unguarded_exactly states label }
+        ensures all { (states : List AnyState) → ArePathTables self.now states →
+            result.now ≡ tables.unguarded_exactly states label }
     {
         self.exactly.row(label)
     }
 
     /// The Path states without a guard that test any name, where the label is of that kind.
     pub fn unguarded_loosely(&self, label: u32) -> &[u32]
-        ensures all { (states : List AnyState) → ArePathTables self.now states → result.now ≡ tables.unguarded_loosely states label }
+        ensures all { (states : List AnyState) → ArePathTables self.now states →
+            result.now ≡ tables.unguarded_loosely states label }
     {
         if self.names.is_element(label) {
             return &self.any_elements;
@@ -107,7 +111,8 @@ impl PathTables {
 }
 
 fn is_met(names: &Names, met: Met, label: u32) -> bool
-    ensures value { (kinds : List Kind) (state : Option AnyState) → AreNames names.now kinds → met ≡ met_of kinds state → result ≡ tables.is_met (label_in kinds label) state }
+    ensures value { (kinds : List Kind) (state : Option AnyState) → AreNames names.now kinds →
+        met ≡ met_of kinds state → result ≡ tables.is_met (label_in kinds label) state }
 {
     match met {
         Met::Label(wanted) => label == wanted,
@@ -119,7 +124,8 @@ fn is_met(names: &Names, met: Met, label: u32) -> bool
 
 fn tests(alloc: Global, states: &[State], names: &Names) -> Result<Vec<Met>, AllocError>
     requires names { AreNames names.now (names_of (newest states.now)) }
-    ensures all { IfOk result (λ tests. tests.items ≡ map (λ s. met_of (names_of (newest states.now)) (Some s)) states.now) }
+    ensures all { IfOk result (λ tests. tests.items ≡
+        map (λ s. met_of (names_of (newest states.now)) (Some s)) states.now) }
 {
     let mut tests = Vec::with_capacity(alloc, states.len())?;
     for state in states {
@@ -128,9 +134,10 @@ fn tests(alloc: Global, states: &[State], names: &Names) -> Result<Vec<Met>, All
     Ok(tests)
 }
 
-/// Which labels meet the test of a state.
+// Which labels meet the test of a state.
 fn test(names: &Names, state: &State) -> Met
-    ensures it { (kinds : List Kind) → AreNames names.now kinds → result ≡ met_of kinds (Some state.now) }
+    ensures it { (kinds : List Kind) → AreNames names.now kinds →
+        result ≡ met_of kinds (Some state.now) }
 {
     match state {
         State::Path { test, .. } => match test {
@@ -150,7 +157,8 @@ fn test(names: &Names, state: &State) -> Met
 fn guarded(alloc: Global, states: &[State], guards: &[Option<u32>]) -> Result<Groups, AllocError>
     requires few { length states.now ≤ 500_000 }
     requires guards { AreGuards guards.now (newest states.now) }
-    ensures all { IfOk result (λ groups. (guard : ℕ) → row groups guard ≡ tables.guarded_by (newest states.now) guard) }
+    ensures all { IfOk result (λ groups. (guard : ℕ) →
+        row groups guard ≡ tables.guarded_by (newest states.now) guard) }
 {
     let mut groups = Groups::new(alloc, states.len())?;
     for (n, state) in states.iter().enumerate() {
@@ -159,10 +167,12 @@ fn guarded(alloc: Global, states: &[State], guards: &[Option<u32>]) -> Result<Gr
     Ok(groups)
 }
 
-/// The guard of a Path state's body.
+// The guard of a Path state's body.
 fn guard_key(guards: &[Option<u32>], state: &State) -> Option<u32>
-    ensures key { (states : List AnyState) → AreGuards guards.now states → (guard : ℕ) → is_key result guard ≡ tables.is_guarded_by states guard (Some state.now) }
-    ensures within { (states : List AnyState) → AreGuards guards.now states → IfSome result (λ guard. guard < length states) }
+    ensures key { (states : List AnyState) → AreGuards guards.now states → (guard : ℕ) →
+        is_key result guard ≡ tables.is_guarded_by states guard (Some state.now) }
+    ensures within { (states : List AnyState) → AreGuards guards.now states →
+        IfSome result (λ guard. guard < length states) }
 {
     match state {
         State::Path { body, .. } => body_guard(guards, body),
@@ -182,7 +192,8 @@ fn exactly(
     requires few { length states.now ≤ 500_000 }
     requires guards { AreGuards guards.now (newest states.now) }
     requires names { AreNames names.now (names_of (newest states.now)) }
-    ensures all { IfOk result (λ groups. (label : ℕ) → row groups label ≡ tables.unguarded_exactly (newest states.now) label) }
+    ensures all { IfOk result (λ groups. (label : ℕ) →
+        row groups label ≡ tables.unguarded_exactly (newest states.now) label) }
 {
     let mut groups = Groups::new(alloc, names.labels())?;
     for (n, state) in states.iter().enumerate() {
@@ -191,11 +202,14 @@ fn exactly(
     Ok(groups)
 }
 
-/// The label of the very name that a Path state without a guard tests, or of texts.
+// The label of the very name that a Path state without a guard tests, or of texts.
 fn exact_key(guards: &[Option<u32>], names: &Names, state: &State) -> Option<u32>
-    ensures key { (states : List AnyState) → AreGuards guards.now states → AreNames names.now (names_of states) → (label : ℕ) →
-        is_key result label ≡ (tables.is_unguarded states (Some state.now) && tables.tests_exactly (names_of states) label (Some state.now)) }
-    ensures within { (kinds : List Kind) → AreNames names.now kinds → IfSome result (λ label. label < 3 + length kinds) }
+    ensures key { (states : List AnyState) → AreGuards guards.now states →
+        AreNames names.now (names_of states) → (label : ℕ) →
+        is_key result label ≡ (tables.is_unguarded states (Some state.now) && tables.tests_exactly
+        (names_of states) label (Some state.now)) }
+    ensures within { (kinds : List Kind) → AreNames names.now kinds →
+        IfSome result (λ label. label < 3 + length kinds) }
 {
     if is_unguarded(guards, state) {
         exact_label(names, state)
@@ -205,8 +219,10 @@ fn exact_key(guards: &[Option<u32>], names: &Names, state: &State) -> Option<u32
 }
 
 fn exact_label(names: &Names, state: &State) -> Option<u32>
-    ensures key { (kinds : List Kind) → AreNames names.now kinds → (label : ℕ) → is_key result label ≡ tables.tests_exactly kinds label (Some state.now) }
-    ensures within { (kinds : List Kind) → AreNames names.now kinds → IfSome result (λ label. label < 3 + length kinds) }
+    ensures key { (kinds : List Kind) → AreNames names.now kinds → (label : ℕ) →
+        is_key result label ≡ tables.tests_exactly kinds label (Some state.now) }
+    ensures within { (kinds : List Kind) → AreNames names.now kinds →
+        IfSome result (λ label. label < 3 + length kinds) }
 {
     match test(names, state) {
         Met::Label(label) => Some(label),
@@ -217,7 +233,8 @@ fn exact_label(names: &Names, state: &State) -> Option<u32>
 }
 
 fn is_unguarded(guards: &[Option<u32>], state: &State) -> bool
-    ensures value { (states : List AnyState) → AreGuards guards.now states → result ≡ tables.is_unguarded states (Some state.now) }
+    ensures value { (states : List AnyState) → AreGuards guards.now states →
+        result ≡ tables.is_unguarded states (Some state.now) }
 {
     match state {
         State::Path { body, .. } => body_guard(guards, body).is_none(),
@@ -235,7 +252,9 @@ fn any_elements(
 ) -> Result<Vec<u32>, AllocError>
     requires few { length states.now ≤ 500_000 }
     requires guards { AreGuards guards.now (newest states.now) }
-    ensures all { IfOk result (λ found. found.items ≡ tables.states_where (newest states.now) (λ s. tables.is_unguarded (newest states.now) s && tables.tests_any_element s)) }
+    ensures all { IfOk result (λ found. found.items ≡
+        tables.states_where (newest states.now)
+        (λ s. tables.is_unguarded (newest states.now) s && tables.tests_any_element s)) }
 {
     let mut found = Vec::new(alloc);
     for (n, state) in states.iter().enumerate() {
@@ -251,7 +270,9 @@ fn any_attributes(
 ) -> Result<Vec<u32>, AllocError>
     requires few { length states.now ≤ 500_000 }
     requires guards { AreGuards guards.now (newest states.now) }
-    ensures all { IfOk result (λ found. found.items ≡ tables.states_where (newest states.now) (λ s. tables.is_unguarded (newest states.now) s && tables.tests_any_attribute s)) }
+    ensures all { IfOk result (λ found. found.items ≡
+        tables.states_where (newest states.now)
+        (λ s. tables.is_unguarded (newest states.now) s && tables.tests_any_attribute s)) }
 {
     let mut found = Vec::new(alloc);
     for (n, state) in states.iter().enumerate() {
@@ -260,9 +281,11 @@ fn any_attributes(
     Ok(found)
 }
 
-/// Whether a Path state without a guard tests for any element.
+// Whether a Path state without a guard tests for any element.
 fn is_any_element(guards: &[Option<u32>], state: &State) -> bool
-    ensures value { (states : List AnyState) → AreGuards guards.now states → result ≡ (tables.is_unguarded states (Some state.now) && tables.tests_any_element (Some state.now)) }
+    ensures value { (states : List AnyState) → AreGuards guards.now states →
+        result ≡ (tables.is_unguarded states (Some state.now) && tables.tests_any_element
+        (Some state.now)) }
 {
     is_unguarded(guards, state) && tests_any_element(state)
 }
@@ -285,9 +308,11 @@ fn tests_any_element(state: &State) -> bool
     }
 }
 
-/// Whether a Path state without a guard tests for any attribute.
+// Whether a Path state without a guard tests for any attribute.
 fn is_any_attribute(guards: &[Option<u32>], state: &State) -> bool
-    ensures value { (states : List AnyState) → AreGuards guards.now states → result ≡ (tables.is_unguarded states (Some state.now) && tables.tests_any_attribute (Some state.now)) }
+    ensures value { (states : List AnyState) → AreGuards guards.now states →
+        result ≡ (tables.is_unguarded states (Some state.now) && tables.tests_any_attribute
+        (Some state.now)) }
 {
     is_unguarded(guards, state) && tests_any_attribute(state)
 }

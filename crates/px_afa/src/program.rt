@@ -41,14 +41,16 @@ impl Model for Program {
 
     ghost use Rattle.px_afa.specs.ProgramKept.{IsKept};
 
-    ghost view = { λ program. record { states = newest program.states.items; firsts = program.firsts.items } };
+    ghost view = { λ program. record
+        { states = newest program.states.items; firsts = program.firsts.items } };
 
     ghost invariant = { IsKept };
 }
 
 impl Program {
-    /// The program of live filters, whose ids rise and whose sizes are at most 500,000 together.
-    /// It takes memory for the states and for what they are looked up by, and its only failure is want of memory.
+    /// The program of live filters, whose ids rise and whose sizes are at most 500,000 together. It
+    /// takes memory for the states and for what they are looked up by, and its only failure is want
+    /// of memory.
     pub fn build(alloc: Global, live: &[Numbered]) -> Result<Program, AllocError>
         requires live { AreLive (subscriptions live.now) }
         ensures program { IfOk result (λ program. program ≡ automata (subscriptions live.now)) }
@@ -105,14 +107,16 @@ impl Program {
 
     /// The label of an element's name: 1 where no state tests it. It takes no memory.
     pub fn label_of_element(&self, name: &[u8]) -> u32
-        ensures label { result ≡ labels.label_number (labels.names_of self.now.states) (ElementKind name.now) }
+        ensures label { result ≡ labels.label_number (labels.names_of self.now.states)
+            (ElementKind name.now) }
     {
         self.paths.names().element(name)
     }
 
     /// The label of an attribute's name: 2 where no state tests it. It takes no memory.
     pub fn label_of_attribute(&self, name: &[u8]) -> u32
-        ensures label { result ≡ labels.label_number (labels.names_of self.now.states) (AttributeKind name.now) }
+        ensures label { result ≡ labels.label_number (labels.names_of self.now.states)
+            (AttributeKind name.now) }
     {
         self.paths.names().attribute(name)
     }
@@ -140,7 +144,8 @@ impl Program {
 
     /// Whether a label meets the test of a state, which is a Path. It takes no memory.
     pub fn is_met(&self, n: u32, label: u32) -> bool
-        ensures value { result ≡ tables.is_met (labels.label_at self.now.states label) (state_at self.now.states n) }
+        ensures value { result ≡ tables.is_met (labels.label_at self.now.states label)
+            (state_at self.now.states n) }
     {
         self.paths.is_met(n, label)
     }

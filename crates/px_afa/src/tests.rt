@@ -36,7 +36,7 @@ fn tests_element(test: &Test, name: &[u8]) -> bool {
     }
 }
 
-/// The states and labels of `//a[b/text()=1 and .//a[@c>2]]`.
+// The states and labels of `//a[b/text()=1 and .//a[@c>2]]`.
 fn is_worked(program: &Program) -> bool {
     program.states() == 8
         && is_element_path(program, 2, Axis::Child, b"b", 1)
@@ -48,7 +48,7 @@ fn is_worked(program: &Program) -> bool {
         && program.label_of_element(b"a") == 5
 }
 
-/// The classes of numbers beside the literals 1 and 5.
+// The classes of numbers beside the literals 1 and 5.
 fn has_classes(program: &Program) -> bool {
     program.number_class(b"0") == 1
         && program.number_class(b"1.0") == 2

@@ -5,7 +5,8 @@
 pub enum Enter {
     /// The bank stands at the version, and the pass is inside.
     Entered,
-    /// The word of the bank showed another version, or that it is being built. The pass has left again.
+    /// The word of the bank showed another version, or that it is being built. The pass has left
+    /// again.
     Gone { word: u64 },
 }
 

@@ -14,7 +14,8 @@ ghost use Rattle.px_banks.specs.Answers.{EnterGives, ClaimGives, IsCleared};
 use crate::answers::{Claim, Enter};
 use px_rule::{Law, Seat, Shared, stands_at};
 
-/// Counts a pass in at a bank that stands at the version. Else it is `Gone`, and the pass has left again.
+/// Counts a pass in at a bank that stands at the version. Else it is `Gone`, and the pass has left
+/// again.
 pub fn enter<L: Law>(shared: &Shared<L>, seat: &mut Seat<L>, bank: u32, version: u32) -> Enter
     requires table { seat.old.table ≡ shared.now }
     requires bank { bank < shared.now.shape.banks }
@@ -43,13 +44,16 @@ pub fn leave<L: Law>(shared: &Shared<L>, pass: &mut Seat<L>)
     shared.leave_step(pass)
 }
 
-/// Takes a bank that no call is inside, to build it for a new version. Else it is `Busy`, and the desk keeps the word found.
+/// Takes a bank that no call is inside, to build it for a new version. Else it is `Busy`, and the
+/// desk keeps the word found.
 pub fn claim<L: Law>(shared: &Shared<L>, desk: &mut Seat<L>, bank: u32, old: u32, new: u32) -> Claim
     requires table { desk.old.table ≡ shared.now }
     requires bank { bank < shared.now.shape.banks }
     requires desk { desk.old.view.past.kind ≡ Desk }
-    requires stand { (a : Stand) × (get_elem? desk.old.view.stay.stands bank ≡ some a) × (a.version ≡ old) × (a.building ≡ 0) }
-    requires none_built { (j : ℕ) (c : Stand) → get_elem? desk.old.view.stay.stands j ≡ some c → c.building ≡ 0 }
+    requires stand { (a : Stand) × (get_elem? desk.old.view.stay.stands bank ≡ some a) ×
+        (a.version ≡ old) × (a.building ≡ 0) }
+    requires none_built { (j : ℕ) (c : Stand) → get_elem? desk.old.view.stay.stands j ≡ some c →
+        c.building ≡ 0 }
     requires new { (old < new) × (new ≤ length desk.old.view.past.seen) }
     ensures table { desk.new.table ≡ desk.old.table }
     ensures answer { ClaimGives bank old new desk.old.view desk.new.view result }
@@ -67,10 +71,12 @@ pub fn zero<L: Law>(shared: &Shared<L>, desk: &mut Seat<L>, bank: u32)
     requires table { desk.old.table ≡ shared.now }
     requires bank { bank < shared.now.shape.banks }
     requires desk { desk.old.view.past.kind ≡ Desk }
-    requires built { (a : Stand) × (get_elem? desk.old.view.stay.stands bank ≡ some a) × (a.building ≡ 1) × (a.zeroed ≡ 0) }
+    requires built { (a : Stand) × (get_elem? desk.old.view.stay.stands bank ≡ some a) ×
+        (a.building ≡ 1) × (a.zeroed ≡ 0) }
     ensures table { desk.new.table ≡ desk.old.table }
     ensures past { desk.new.view.past ≡ desk.old.view.past }
-    ensures ready { (a : Stand) × (get_elem? desk.new.view.stay.stands bank ≡ some a) × (a.building ≡ 1) × (size_of shared.now.shape ≤ a.zeroed) }
+    ensures ready { (a : Stand) × (get_elem? desk.new.view.stay.stands bank ≡ some a) ×
+        (a.building ≡ 1) × (size_of shared.now.shape ≤ a.zeroed) }
     ensures cleared { IsCleared bank (size_of shared.now.shape) desk.old.view desk.new.view }
 {
     for place in 0..shared.shape().bank_places() {
@@ -78,12 +84,14 @@ pub fn zero<L: Law>(shared: &Shared<L>, desk: &mut Seat<L>, bank: u32)
     }
 }
 
-/// Takes the building bit away from a bank of which all places were zeroed. It stands at its version.
+/// Takes the building bit away from a bank of which all places were zeroed. It stands at its
+/// version.
 pub fn publish<L: Law>(shared: &Shared<L>, desk: &mut Seat<L>, bank: u32)
     requires table { desk.old.table ≡ shared.now }
     requires bank { bank < shared.now.shape.banks }
     requires desk { desk.old.view.past.kind ≡ Desk }
-    requires built { (a : Stand) × (get_elem? desk.old.view.stay.stands bank ≡ some a) × (a.building ≡ 1) × (size_of shared.now.shape ≤ a.zeroed) }
+    requires built { (a : Stand) × (get_elem? desk.old.view.stay.stands bank ≡ some a) ×
+        (a.building ≡ 1) × (size_of shared.now.shape ≤ a.zeroed) }
     ensures table { desk.new.table ≡ desk.old.table }
     ensures past { desk.new.view.past ≡ desk.old.view.past }
     ensures view { Published bank desk.old.view desk.new.view }

@@ -1,4 +1,5 @@
-//! The life of an epoch: a bank is claimed, zeroed, published, entered and left, and never claimed while a call is inside.
+//! The life of an epoch: a bank is claimed, zeroed, published, entered and left, and never claimed
+//! while a call is inside.
 //!
 //! An epoch is a bank at one version. The desk claims a bank that no call is inside for a new
 //! version, stores 0 to each of its places and publishes it. A pass enters it for its own version,

@@ -83,7 +83,8 @@ fn bank_words(rt: HostRuntime) -> Result<(), Fail> {
     Ok(())
 }
 
-// So many passes more come in, one after the other; then the first pass makes a change, and the desk finds all inside. They leave again.
+// So many passes more come in, one after the other; then the first pass makes a change, and the
+// desk finds all inside. They leave again.
 fn crowd(
     rt: &impl Abort,
     shared: &Shared<Votes>,
@@ -93,11 +94,14 @@ fn crowd(
 )
     requires tables { (desk.old.table ≡ shared.now) × (first.old.table ≡ shared.now) }
     requires banks { shared.now.shape.banks ≡ 1 }
-    requires desk { (desk.old.view.past.kind ≡ Desk) × (desk.old.view.past.permit ≡ None) × (desk.old.view.past.seen ≡ []) × (desk.old.view.stay.stands ≡ stand 0 0 0 ∷ []) }
+    requires desk { (desk.old.view.past.kind ≡ Desk) × (desk.old.view.past.permit ≡ None) ×
+        (desk.old.view.past.seen ≡ []) × (desk.old.view.stay.stands ≡ stand 0 0 0 ∷ []) }
     requires room { desk.old.view.past.made + left ≤ 64 }
-    requires first { (first.old.view.past.kind ≡ Pass 0) × (first.old.view.past.seen ≡ []) × (first.old.view.past.mine ≡ []) × (first.old.view.stay.place ≡ Inside 0 0) }
+    requires first { (first.old.view.past.kind ≡ Pass 0) × (first.old.view.past.seen ≡ []) ×
+        (first.old.view.past.mine ≡ []) × (first.old.view.stay.place ≡ Inside 0 0) }
     ensures tables { (desk.new.table ≡ shared.now) × (first.new.table ≡ shared.now) }
-    ensures desk { (desk.new.view.past.kind ≡ Desk) × (length desk.new.view.past.seen ≡ 1) × (desk.new.view.stay.stands ≡ stand 0 0 0 ∷ []) }
+    ensures desk { (desk.new.view.past.kind ≡ Desk) × (length desk.new.view.past.seen ≡ 1) ×
+        (desk.new.view.stay.stands ≡ stand 0 0 0 ∷ []) }
     ensures first { first.new.view.stay.place ≡ Inside 0 0 }
 {
     if left == 0 {

@@ -13,7 +13,8 @@ pub(crate) fn renew<L: Law>(shared: &Shared<L>, desk: &mut Seat<L>, bank: u32)
     requires table { desk.old.table ≡ shared.now }
     requires bank { bank < shared.now.shape.banks }
     requires desk { desk.old.view.past.kind ≡ Desk }
-    requires built { (a : Stand) × (get_elem? desk.old.view.stay.stands bank ≡ some a) × (a.building ≡ 1) × (a.zeroed ≡ 0) }
+    requires built { (a : Stand) × (get_elem? desk.old.view.stay.stands bank ≡ some a) ×
+        (a.building ≡ 1) × (a.zeroed ≡ 0) }
     ensures table { desk.new.table ≡ desk.old.table }
     ensures past { desk.new.view.past ≡ desk.old.view.past }
 {

@@ -15,13 +15,13 @@
 //!   its node word; 0 is the empty set        its operands, and the number of its result
 //! ```
 //!
-//! **A set.** [`intern`] goes from the greatest element down. The node word of an element and of the
-//! number of the elements above it has a path of places of its own, at most 64. The walk looks at
-//! one after the other: a place that holds the word gives the number; one with another word is
+//! **A set.** [`intern`] goes from the greatest element down. The node word of an element and of
+//! the number of the elements above it has a path of places of its own, at most 64. The walk looks
+//! at one after the other: a place that holds the word gives the number; one with another word is
 //! passed by; the first empty one is written by one exchange. Where somebody else's exchange came
 //! first, the walk reads what that wrote and goes on as if it had stood there before. So whoever
-//! comes first, a set has one number for all, and a number names one set. A set of m elements
-//! costs at most 128 m touches. [`set_of`] reads a set back from its number, tail by tail.
+//! comes first, a set has one number for all, and a number names one set. A set of m elements costs
+//! at most 128 m touches. [`set_of`] reads a set back from its number, tail by tail.
 //!
 //! **A step.** [`find`] walks the path of the step's key, which is the word without its result, and
 //! answers the result, or that the step is absent: the path has an empty place before any word of
@@ -30,15 +30,15 @@
 //! 128 touches. It asks that the result is right by the law of the table, so a found result is
 //! believed without being computed again.
 //!
-//! **Full.** A path whose places all hold words of other keys has no room. [`intern`] and [`put`] then
-//! answer `Full` with the word that found none, and in no other case. The caller goes on with a set or
-//! a result of its own.
+//! **Full.** A path whose places all hold words of other keys has no room. [`intern`] and [`put`]
+//! then answer `Full` with the word that found none, and in no other case. The caller goes on with
+//! a set or a result of its own.
 //!
-//! **What the seat knows afterwards.** Each word that was seen or written is kept in the seat's view,
-//! each empty place that ended a walk leaves a gap there, and each word written is noted. The
+//! **What the seat knows afterwards.** Each word that was seen or written is kept in the seat's
+//! view, each empty place that ended a walk leaves a gap there, and each word written is noted. The
 //! contracts are in these words: what a number stands for, which step word is kept, which key is
-//! blocked, and that nothing else was written. They stand in `specs/Answers.antt`, over
-//! px_rule's `specs/Kept.antt`.
+//! blocked, and that nothing else was written. They stand in `specs/Answers.antt`, over px_rule's
+//! `specs/Kept.antt`.
 //!
 //! No call takes memory but `set_of`, for the set that it gives.
 #![tactic(auto)]

@@ -16,7 +16,8 @@ pub(crate) fn first_place<L: Law>(shared: &Shared<L>, word: u64) -> u32
 pub(crate) fn place_after<L: Law>(shared: &Shared<L>, word: u64, at: u32) -> u32
     requires within { at < size_of shared.now.shape }
     requires path { (i : ℕ) × (at ≡ path_of shared.now.shape (key_of word) i) }
-    ensures next { (i : ℕ) → at ≡ path_of shared.now.shape (key_of word) i → result ≡ path_of shared.now.shape (key_of word) (i + 1) }
+    ensures next { (i : ℕ) → at ≡ path_of shared.now.shape (key_of word) i →
+        result ≡ path_of shared.now.shape (key_of word) (i + 1) }
     ensures within { result < size_of shared.now.shape }
 {
     next_place(&shared.shape(), word, at)

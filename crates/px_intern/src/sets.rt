@@ -11,7 +11,8 @@ use px_rule::{Law, Seat, Shared, node_word};
 use px_text::Set;
 use std::alloc::{AllocError, Global};
 
-/// The number of a set in the bank that the seat is inside: the same for all seats, while the bank has its version. `Full` is answered where no place is free for a node word of the set.
+/// The number of a set in the bank that the seat is inside: the same for all seats, while the bank
+/// has its version. `Full` is answered where no place is free for a node word of the set.
 pub fn intern<L: Law>(shared: &Shared<L>, seat: &mut Seat<L>, set: &Set) -> Intern
     requires table { seat.old.table ≡ shared.now }
     requires inside { is_inside seat.old.view.stay.place ≡ true }
@@ -19,13 +20,15 @@ pub fn intern<L: Law>(shared: &Shared<L>, seat: &mut Seat<L>, set: &Set) -> Inte
     ensures grew { Grew seat.old.view seat.new.view }
     ensures sound { StaysSound L.right shared.now.shape seat.old.view seat.new.view }
     ensures wrote { WroteNodes L.right shared.now.shape set.now seat.old.view seat.new.view }
-    ensures touched { seat.new.view.touch.touches ≤ seat.old.view.touch.touches + 128 * length set.now }
+    ensures touched { seat.new.view.touch.touches ≤
+        seat.old.view.touch.touches + 128 * length set.now }
     ensures answer { Interns L.right shared.now.shape set.now seat.new.view result }
 {
     intern_rising(shared, seat, set.as_slice())
 }
 
-// The number of the set of these elements, which rise. Its node words are sought from the greatest element down.
+// The number of the set of these elements, which rise. Its node words are sought from the greatest
+// element down.
 fn intern_rising<L: Law>(shared: &Shared<L>, seat: &mut Seat<L>, elements: &[u32]) -> Intern
     requires table { seat.old.table ≡ shared.now }
     requires inside { is_inside seat.old.view.stay.place ≡ true }
@@ -34,7 +37,8 @@ fn intern_rising<L: Law>(shared: &Shared<L>, seat: &mut Seat<L>, elements: &[u32
     ensures grew { Grew seat.old.view seat.new.view }
     ensures sound { StaysSound L.right shared.now.shape seat.old.view seat.new.view }
     ensures wrote { WroteNodes L.right shared.now.shape elements.now seat.old.view seat.new.view }
-    ensures touched { seat.new.view.touch.touches ≤ seat.old.view.touch.touches + 128 * length elements.now }
+    ensures touched { seat.new.view.touch.touches ≤
+        seat.old.view.touch.touches + 128 * length elements.now }
     ensures answer { Interns L.right shared.now.shape elements.now seat.new.view result }
 {
     let mut number = 0;
@@ -51,7 +55,8 @@ fn intern_rising<L: Law>(shared: &Shared<L>, seat: &mut Seat<L>, elements: &[u32
     Intern::Number(number)
 }
 
-/// The set that a number stands for. The number is one that the seat was told. Its only failure is want of memory.
+/// The set that a number stands for. The number is one that the seat was told. Its only failure is
+/// want of memory.
 pub fn set_of<L: Law>(
     alloc: Global,
     shared: &Shared<L>,
@@ -65,14 +70,16 @@ pub fn set_of<L: Law>(
     ensures grew { Grew seat.old.view seat.new.view }
     ensures sound { IsSound L.right shared.now.shape seat.new.view }
     ensures wrote_none { seat.new.view.touch.wrote ≡ seat.old.view.touch.wrote }
-    ensures set { IfOk result (λ set. (xs : List ℕ) → Names L.right shared.now.shape seat.old.view number xs → set ≡ xs) }
+    ensures set { IfOk result (λ set. (xs : List ℕ) →
+        Names L.right shared.now.shape seat.old.view number xs → set ≡ xs) }
 {
     look_round(shared, seat);
     let elements = elements_of_set(alloc, shared, seat, number)?;
     Ok(Set::from_vec(elements))
 }
 
-// Looks at node place 0, where no word ever stands. The look tells that all that the seat keeps of the bank stands in one right bank.
+// Looks at node place 0, where no word ever stands. The look tells that all that the seat keeps of
+// the bank stands in one right bank.
 fn look_round<L: Law>(shared: &Shared<L>, seat: &mut Seat<L>)
     requires table { seat.old.table ≡ shared.now }
     requires inside { is_inside seat.old.view.stay.place ≡ true }
@@ -99,7 +106,8 @@ fn elements_of_set<L: Law>(
     ensures grew { Grew seat.old.view seat.new.view }
     ensures sound { IsSound L.right shared.now.shape seat.new.view }
     ensures wrote_none { seat.new.view.touch.wrote ≡ seat.old.view.touch.wrote }
-    ensures set { IfOk result (λ set. (xs : List ℕ) → Names L.right shared.now.shape seat.old.view number xs → set.items ≡ xs) }
+    ensures set { IfOk result (λ set. (xs : List ℕ) →
+        Names L.right shared.now.shape seat.old.view number xs → set.items ≡ xs) }
     ensures rising { IfOk result (λ set. Rising set.items) }
 {
     let mut elements = Vec::new(alloc);

@@ -11,7 +11,8 @@ use crate::walk::seek;
 use px_rule::{Law, Seat, Shared, step_word};
 use px_text::Op;
 
-/// Looks for a step in the bank that the seat is inside, and answers the number of its result, or that it is absent.
+/// Looks for a step in the bank that the seat is inside, and answers the number of its result, or
+/// that it is absent.
 pub fn find<L: Law>(shared: &Shared<L>, seat: &mut Seat<L>, op: Op, a: u32, b: u32) -> Find
     requires table { seat.old.table ≡ shared.now }
     requires inside { is_inside seat.old.view.stay.place ≡ true }
@@ -20,7 +21,8 @@ pub fn find<L: Law>(shared: &Shared<L>, seat: &mut Seat<L>, op: Op, a: u32, b: u
     ensures grew { Grew seat.old.view seat.new.view }
     ensures sound { IsSound L.right shared.now.shape seat.new.view }
     ensures wrote_none { seat.new.view.touch.wrote ≡ seat.old.view.touch.wrote }
-    ensures touched { (seat.old.view.touch.touches < seat.new.view.touch.touches) × (seat.new.view.touch.touches ≤ seat.old.view.touch.touches + 64) }
+    ensures touched { (seat.old.view.touch.touches < seat.new.view.touch.touches) ×
+        (seat.new.view.touch.touches ≤ seat.old.view.touch.touches + 64) }
     ensures answer { Finds L.right shared.now.shape op a b seat.old.view seat.new.view result }
 {
     let key = step_word(op, a, b, 0);
@@ -38,7 +40,8 @@ pub fn find<L: Law>(shared: &Shared<L>, seat: &mut Seat<L>, op: Op, a: u32, b: u
     Find::Absent
 }
 
-/// Puts a step with the number of its answer into the bank that the seat is inside. `Full` is answered where no place of its path is free.
+/// Puts a step with the number of its answer into the bank that the seat is inside. `Full` is
+/// answered where no place of its path is free.
 pub fn put<L: Law>(shared: &Shared<L>, seat: &mut Seat<L>, op: Op, a: u32, b: u32, r: u32) -> Put
     requires table { seat.old.table ≡ shared.now }
     requires inside { is_inside seat.old.view.stay.place ≡ true }
@@ -49,7 +52,8 @@ pub fn put<L: Law>(shared: &Shared<L>, seat: &mut Seat<L>, op: Op, a: u32, b: u3
     ensures sound { IsSound L.right shared.now.shape seat.new.view }
     ensures wrote { WroteOnly (word_of_step op a b r) seat.old.view seat.new.view }
     ensures touched { seat.new.view.touch.touches ≤ seat.old.view.touch.touches + 128 }
-    ensures answer { Puts shared.now.shape (word_of_step op a b r) seat.old.view seat.new.view result }
+    ensures answer { Puts shared.now.shape (word_of_step op a b r) seat.old.view seat.new.view
+        result }
 {
     let word = step_word(op, a, b, r);
     match seek(shared, seat, word) {

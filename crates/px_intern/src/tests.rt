@@ -56,8 +56,10 @@ pub(crate) fn come_in(
 ) -> Seat<Empties>
     requires table { desk.old.table ≡ shared.now }
     requires banks { 0 < shared.now.shape.banks }
-    requires desk { (desk.old.view.past.kind ≡ Desk) × (desk.old.view.past.seen ≡ []) × (desk.old.view.past.made < 65) }
-    ensures desk { (desk.new.table ≡ shared.now) × (desk.new.view.past.kind ≡ Desk) × (desk.new.view.past.seen ≡ []) × (desk.new.view.past.made ≡ desk.old.view.past.made + 1) }
+    requires desk { (desk.old.view.past.kind ≡ Desk) × (desk.old.view.past.seen ≡ []) ×
+        (desk.old.view.past.made < 65) }
+    ensures desk { (desk.new.table ≡ shared.now) × (desk.new.view.past.kind ≡ Desk) ×
+        (desk.new.view.past.seen ≡ []) × (desk.new.view.past.made ≡ desk.old.view.past.made + 1) }
     ensures pass { (result.table ≡ shared.now) × (is_inside result.view.stay.place ≡ true) }
 {
     let mut pass = shared.pass(desk);
@@ -196,9 +198,11 @@ fn worker_inside<'s>(
 ) -> Worker<'s>
     requires table { desk.old.table ≡ shared.now }
     requires banks { 0 < shared.now.shape.banks }
-    requires desk { (desk.old.view.past.kind ≡ Desk) × (desk.old.view.past.seen ≡ []) × (desk.old.view.past.made < 65) }
+    requires desk { (desk.old.view.past.kind ≡ Desk) × (desk.old.view.past.seen ≡ []) ×
+        (desk.old.view.past.made < 65) }
     requires order { (first < 1000) × (stride < 1000) }
-    ensures desk { (desk.new.table ≡ shared.now) × (desk.new.view.past.kind ≡ Desk) × (desk.new.view.past.seen ≡ []) × (desk.new.view.past.made ≡ desk.old.view.past.made + 1) }
+    ensures desk { (desk.new.table ≡ shared.now) × (desk.new.view.past.kind ≡ Desk) ×
+        (desk.new.view.past.seen ≡ []) × (desk.new.view.past.made ≡ desk.old.view.past.made + 1) }
 {
     Worker {
         shared,

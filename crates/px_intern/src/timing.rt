@@ -1,4 +1,5 @@
-//! How long a found step takes, beside a plain loop over as many words. It prints, and says nothing of the time.
+//! How long a found step takes, beside a plain loop over as many words. It prints, and says nothing
+//! of the time.
 ghost use Rattle.std.specs.Prelude.{◌≡◌, ◌<◌, ◌≤◌, true};
 ghost use Rattle.px_rule.specs.Table.{is_inside};
 

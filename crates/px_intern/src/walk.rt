@@ -9,14 +9,17 @@ use crate::answers::Sought;
 use crate::paths::{first_place, place_after, turns};
 use px_rule::{Law, Seat, Shared};
 
-// Looks at a place of the path of a word, writes the word there if it is empty, and answers what stands there.
+// Looks at a place of the path of a word, writes the word there if it is empty, and answers what
+// stands there.
 fn try_place<L: Law>(shared: &Shared<L>, seat: &mut Seat<L>, word: u64, at: u32) -> u64
     requires table { seat.old.table ≡ shared.now }
     requires inside { is_inside seat.old.view.stay.place ≡ true }
     requires shape { IsShape shared.now.shape }
     requires within { at < size_of shared.now.shape }
     requires word { IsProper L.right shared.now.shape seat.old.view word }
-    requires path { (turn : ℕ) × (turn < long_of shared.now.shape (key_of word)) × (at ≡ path_of shared.now.shape (key_of word) turn) × IsPassed shared.now.shape word turn seat.old.view }
+    requires path { (turn : ℕ) × (turn < long_of shared.now.shape (key_of word)) ×
+        (at ≡ path_of shared.now.shape (key_of word) turn) ×
+        IsPassed shared.now.shape word turn seat.old.view }
     ensures table { seat.new.table ≡ seat.old.table }
     ensures grew { Grew seat.old.view seat.new.view }
     ensures sound { IsSound L.right shared.now.shape seat.new.view }
@@ -32,7 +35,8 @@ fn try_place<L: Law>(shared: &Shared<L>, seat: &mut Seat<L>, word: u64, at: u32)
     if found == 0 { word } else { found }
 }
 
-/// Walks the path of a word until a place has a word of its key, and writes it to the first empty place.
+/// Walks the path of a word until a place has a word of its key, and writes it to the first empty
+/// place.
 pub(crate) fn seek<L: Law>(shared: &Shared<L>, seat: &mut Seat<L>, word: u64) -> Sought
     requires table { seat.old.table ≡ shared.now }
     requires inside { is_inside seat.old.view.stay.place ≡ true }

@@ -30,7 +30,14 @@ impl Model for FailSource {
 
     ghost Value = { Failing };
 
-    ghost view = { λ s. record { bytes = drop s.at s.bytes; piece = s.piece; fails = s.fails; calls = s.calls; faults = s.faults } };
+    ghost view = { λ s. record {
+      bytes = drop s.at s.bytes;
+      piece = s.piece;
+      fails = s.fails;
+      calls
+          = s.calls;
+      faults = s.faults;
+    } };
 
     ghost invariant = { λ s. (s.at ≤ length s.bytes) × (0 < s.piece) };
 }
@@ -40,7 +47,14 @@ impl FailSource {
     /// whose numbers, from 1, stand in `fails`.
     pub fn new(bytes: Bytes, piece: usize, fails: Words) -> FailSource
         requires { 0 < piece }
-        ensures { result ≡ record { bytes = bytes; piece = piece; fails = fails; calls = 0; faults = 0 } }
+        ensures { result ≡ record {
+          bytes = bytes;
+          piece = piece;
+          fails = fails;
+          calls = 0;
+          faults =
+              0;
+        } }
     {
         FailSource {
             bytes,
@@ -85,7 +99,7 @@ impl Source for FailSource {
     }
 }
 
-/// Whether the call behind so many is one of those that are to fail.
+// Whether the call behind so many is one of those that are to fail.
 fn stands_next(calls: u64, fails: &Words) -> bool
     ensures { result ≡ list_any (λ number. number == calls + 1) fails.now }
 {
@@ -94,7 +108,7 @@ fn stands_next(calls: u64, fails: &Words) -> bool
     numbers.any(|number| u128::from(*number) == next)
 }
 
-/// The first bytes, at most so many.
+// The first bytes, at most so many.
 fn front(bytes: &[u8], most: usize) -> &[u8]
     ensures same { result.now ≡ take most bytes.now }
     ensures short { length result.now ≤ most }
@@ -119,7 +133,14 @@ impl Model for FailSink {
 
     ghost Value = { Failing };
 
-    ghost view = { λ s. record { bytes = s.bytes.items; piece = s.piece; fails = s.fails; calls = s.calls; faults = s.faults } };
+    ghost view = { λ s. record {
+      bytes = s.bytes.items;
+      piece = s.piece;
+      fails = s.fails;
+      calls =
+          s.calls;
+      faults = s.faults;
+    } };
 
     ghost invariant = { λ s. 0 < s.piece };
 }
@@ -129,7 +150,14 @@ impl FailSink {
     /// from 1, stand in `fails`.
     pub fn new(alloc: Global, piece: usize, fails: Words) -> FailSink
         requires { 0 < piece }
-        ensures { result ≡ record { bytes = []; piece = piece; fails = fails; calls = 0; faults = 0 } }
+        ensures { result ≡ record {
+          bytes = [];
+          piece = piece;
+          fails = fails;
+          calls = 0;
+          faults =
+              0;
+        } }
     {
         FailSink {
             bytes: Vec::new(alloc),

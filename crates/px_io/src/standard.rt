@@ -80,9 +80,10 @@ impl<W: Write> StdSink<W> {
         StdSink { writer, faults: 0 }
     }
 
-    /// Writes to the writer and flushes it: how many bytes it took, if that went well.
+    // Writes to the writer and flushes it: how many bytes it took, if that went well.
     fn write_through(&mut self, piece: &[u8]) -> Option<usize>
-        ensures takes { IfSome result (λ count. (count ≤ length piece.now) × (0 < length piece.now → 0 < count)) }
+        ensures takes { IfSome result (λ count. (count ≤ length piece.now) × (0 < length piece.now →
+            0 < count)) }
         ensures same_count { self.new ≡ self.old }
     {
         let Ok(count) = self.writer.write(piece) else {

@@ -30,7 +30,7 @@ pub fn compares(relation: Relation, value: &Value, at: Place) -> bool
     }
 }
 
-/// Whether the relation allows this order, or none, which a text has that is no number.
+// Whether the relation allows this order, or none, which a text has that is no number.
 fn allows_if_number(relation: Relation, found: Option<Ordering>) -> bool
     ensures { result ≡ meaning.allows_if_number relation found }
 {
@@ -47,18 +47,20 @@ fn allows_if_number(relation: Relation, found: Option<Ordering>) -> bool
     }
 }
 
-/// How the number that the string-value of a place is stands to a decimal, if it is a number.
+// How the number that the string-value of a place is stands to a decimal, if it is a number.
 fn order_of(at: Place, number: &Decimal) -> Option<Ordering>
-    ensures { result ≡ option_map (λ n. order n (decimal_of number.now)) (read (string_value (place at.entry))) }
+    ensures { result ≡ option_map (λ n. order n (decimal_of number.now))
+        (read (string_value (place at.entry))) }
 {
     let mut scan = NumberScan::start();
     take_place(&mut scan, at);
     scan.cmp(number)
 }
 
-/// Takes the string-value of a place.
+// Takes the string-value of a place.
 fn take_place(scan: &mut NumberScan, at: Place)
-    ensures { (text : List ℕ) → HasTaken scan.old text → HasTaken scan.new (text ++ string_value (place at.entry)) }
+    ensures { (text : List ℕ) → HasTaken scan.old text →
+        HasTaken scan.new (text ++ string_value (place at.entry)) }
 {
     match at {
         Place::Document(tree) => take_texts(scan, tree.root.children.as_slice()),
@@ -68,20 +70,22 @@ fn take_place(scan: &mut NumberScan, at: Place)
     }
 }
 
-/// Takes the characters of all texts below nodes, in order.
+// Takes the characters of all texts below nodes, in order.
 #[cycle(scan)]
 fn take_texts(scan: &mut NumberScan, children: &[Node])
-    ensures { (text : List ℕ) → HasTaken scan.old text → HasTaken scan.new (text ++ characters (nodes children.now)) }
+    ensures { (text : List ℕ) → HasTaken scan.old text →
+        HasTaken scan.new (text ++ characters (nodes children.now)) }
 {
     for child in children {
         take_node(scan, child);
     }
 }
 
-/// Takes the string-value of a node.
+// Takes the string-value of a node.
 #[cycle(scan)]
 fn take_node(scan: &mut NumberScan, node: &Node)
-    ensures { (text : List ℕ) → HasTaken scan.old text → HasTaken scan.new (text ++ string_value (place_of_node node.now)) }
+    ensures { (text : List ℕ) → HasTaken scan.old text →
+        HasTaken scan.new (text ++ string_value (place_of_node node.now)) }
 {
     match node {
         Node::Elem(element) => take_texts(scan, element.children.as_slice()),
@@ -89,7 +93,7 @@ fn take_node(scan: &mut NumberScan, node: &Node)
     }
 }
 
-/// Whether the string-value of a place is this literal.
+// Whether the string-value of a place is this literal.
 fn reads(at: Place, literal: &[u8]) -> bool
     ensures { result ≡ bytes_eq (string_value (place at.entry)) literal.now }
 {
@@ -101,7 +105,7 @@ fn reads(at: Place, literal: &[u8]) -> bool
     }
 }
 
-/// Whether the characters of all texts below nodes are this literal.
+// Whether the characters of all texts below nodes are this literal.
 fn texts_read(children: &[Node], literal: &[u8]) -> bool
     ensures { result ≡ bytes_eq (characters (nodes children.now)) literal.now }
 {
@@ -111,12 +115,13 @@ fn texts_read(children: &[Node], literal: &[u8]) -> bool
     }
 }
 
-/// What is left of a literal behind the characters of all texts below nodes, if it begins with
-/// them.
+// What is left of a literal behind the characters of all texts below nodes, if it begins with
+// them.
 #[cycle(literal)]
 fn behind_texts<'a>(literal: &'a [u8], children: &[Node]) -> Option<&'a [u8]>
     ensures { let front = characters (nodes children.now) in
-        MatchOption result ((rest : List ℕ) → literal.now ≢ front ++ rest) (λ rest. literal.now ≡ front ++ rest.now) }
+        MatchOption result ((rest : List ℕ) →
+        literal.now ≢ front ++ rest) (λ rest. literal.now ≡ front ++ rest.now) }
 {
     let mut rest = literal;
     for child in children {
@@ -125,11 +130,12 @@ fn behind_texts<'a>(literal: &'a [u8], children: &[Node]) -> Option<&'a [u8]>
     Some(rest)
 }
 
-/// What is left of a literal behind the string-value of a node, if it begins with that.
+// What is left of a literal behind the string-value of a node, if it begins with that.
 #[cycle(literal)]
 fn behind_node<'a>(literal: &'a [u8], node: &Node) -> Option<&'a [u8]>
     ensures { let front = string_value (place_of_node node.now) in
-        MatchOption result ((rest : List ℕ) → literal.now ≢ front ++ rest) (λ rest. literal.now ≡ front ++ rest.now) }
+        MatchOption result ((rest : List ℕ) →
+        literal.now ≢ front ++ rest) (λ rest. literal.now ≡ front ++ rest.now) }
 {
     match node {
         Node::Elem(element) => behind_texts(literal, element.children.as_slice()),

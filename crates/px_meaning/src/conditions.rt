@@ -22,7 +22,7 @@ pub fn all_hold(conds: &[Cond], at: Place) -> bool
     true
 }
 
-/// Whether one of the conditions holds.
+// Whether one of the conditions holds.
 #[cycle(holds)]
 fn some_holds(conds: &[Cond], at: Place) -> bool
     ensures { result ≡ meaning.some_holds (conditions conds.now) (place at.entry) }

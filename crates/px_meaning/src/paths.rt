@@ -51,7 +51,8 @@ pub fn meets(test: &Test, at: Place) -> bool
 /// Whether steps lead from a place to one where the end holds.
 #[cycle(holds)]
 pub fn steps_hold(steps: &[Step], end: End, from: Place) -> bool
-    ensures { result ≡ meaning.way_holds (ways steps.now) (ends.end_holds end.entry) (place from.entry) }
+    ensures { result ≡ meaning.way_holds (ways steps.now) (ends.end_holds end.entry)
+        (place from.entry) }
 {
     match steps {
         [] => end_holds(end, from),
@@ -81,10 +82,11 @@ pub fn passes(step: &Step, rest: &[Step], end: End, at: Place) -> bool
     meets(&step.test, at) && all_hold(step.conds.as_slice(), at) && steps_hold(rest, end, at)
 }
 
-/// Whether one of the attributes passes.
+// Whether one of the attributes passes.
 #[cycle(holds)]
 fn attributes_pass(step: &Step, rest: &[Step], end: End, attributes: &[Attribute]) -> bool
-    ensures { result ≡ list_any (passes step.now rest.now end.entry) (map AtAttribute attributes.now) }
+    ensures { result ≡ list_any (passes step.now rest.now end.entry)
+        (map AtAttribute attributes.now) }
 {
     for attribute in attributes {
         if passes(step, rest, end, Place::Attribute(attribute)) {
@@ -94,10 +96,11 @@ fn attributes_pass(step: &Step, rest: &[Step], end: End, attributes: &[Attribute
     false
 }
 
-/// Whether one of the nodes passes.
+// Whether one of the nodes passes.
 #[cycle(holds)]
 fn children_pass(step: &Step, rest: &[Step], end: End, children: &[Node]) -> bool
-    ensures { result ≡ list_any (passes step.now rest.now end.entry) (members (nodes children.now)) }
+    ensures { result ≡ list_any (passes step.now rest.now end.entry)
+        (members (nodes children.now)) }
 {
     for child in children {
         if passes(step, rest, end, place_of(child)) {
@@ -107,10 +110,11 @@ fn children_pass(step: &Step, rest: &[Step], end: End, children: &[Node]) -> boo
     false
 }
 
-/// Whether one of the nodes, or of the attributes and nodes below them, passes.
+// Whether one of the nodes, or of the attributes and nodes below them, passes.
 #[cycle(holds)]
 fn below_pass(step: &Step, rest: &[Step], end: End, children: &[Node]) -> bool
-    ensures { result ≡ list_any (passes step.now rest.now end.entry) (all_below (nodes children.now)) }
+    ensures { result ≡ list_any (passes step.now rest.now end.entry)
+        (all_below (nodes children.now)) }
 {
     for child in children {
         if node_below(step, rest, end, child) {
@@ -120,7 +124,7 @@ fn below_pass(step: &Step, rest: &[Step], end: End, children: &[Node]) -> bool
     false
 }
 
-/// Whether the node, or an attribute or node below it, passes.
+// Whether the node, or an attribute or node below it, passes.
 #[cycle(holds)]
 fn node_below(step: &Step, rest: &[Step], end: End, node: &Node) -> bool
     ensures { result ≡ list_any (passes step.now rest.now end.entry) (node_and_below node.now) }
@@ -131,10 +135,11 @@ fn node_below(step: &Step, rest: &[Step], end: End, node: &Node) -> bool
     }
 }
 
-/// Whether the element, or an attribute or node below it, passes.
+// Whether the element, or an attribute or node below it, passes.
 #[cycle(holds)]
 fn element_below(step: &Step, rest: &[Step], end: End, element: &Element) -> bool
-    ensures { result ≡ list_any (passes step.now rest.now end.entry) (element_and_below element.now) }
+    ensures { result ≡ list_any (passes step.now rest.now end.entry)
+        (element_and_below element.now) }
 {
     passes(step, rest, end, Place::Element(element))
         || attributes_pass(step, rest, end, element.attributes.as_slice())

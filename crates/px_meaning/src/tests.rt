@@ -15,9 +15,10 @@ use sqlite_items::Items;
 use std::alloc::{AllocError, Global};
 use std::test::Fail;
 
-/// The path of one step, down to the elements of a name.
+// The path of one step, down to the elements of a name.
 fn path_to(alloc: Global, name: &[u8], conds: Items<Cond>) -> Result<Path, AllocError>
-    ensures { IfOk result (λ path. way path ≡ StepThen Child (test.Element name.now) (conditions conds) Arrived) }
+    ensures { IfOk result (λ path. way path ≡
+        StepThen Child (test.Element name.now) (conditions conds) Arrived) }
 {
     let mut steps = Items::new(alloc);
     steps.push(Step {
@@ -47,7 +48,7 @@ fn tells_elements_by_name(rt: HostRuntime) -> Result<(), Fail> {
     Ok(())
 }
 
-/// `/a[b=12]` on an element with the texts 1 and, in an element of its own, 2.
+// `/a[b=12]` on an element with the texts 1 and, in an element of its own, 2.
 #[test]
 fn joins_the_texts_of_an_element(rt: HostRuntime) -> Result<(), Fail> {
     let alloc = rt.alloc();

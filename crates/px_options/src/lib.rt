@@ -56,8 +56,8 @@ impl From<AllocError> for OptionsError {
 /// Reads the words as uses of these options, and writes the value of each option at its place.
 ///
 /// It answers `Usage` exactly where the words are not in that form, but for want of memory: a value
-/// is one to ten ASCII digits and in the range, no option is given twice, and each without a default
-/// is given. After an error the values written count for nothing.
+/// is one to ten ASCII digits and in the range, no option is given twice, and each without a
+/// default is given. After an error the values written count for nothing.
 pub fn read_options(
     alloc: Global,
     options: &[CommandOption],
@@ -66,7 +66,8 @@ pub fn read_options(
 ) -> Result<(), OptionsError>
     requires places { length options.now ≡ length values.old }
     requires named { IsTrue (list_all has_name options.now) }
-    ensures { ReadsValues (values_in (map rule_of options.now) (texts words.now)) result values.new }
+    ensures { ReadsValues (values_in (map rule_of options.now) (texts words.now)) result
+        values.new }
 {
     if !are_words(words) {
         return Err(OptionsError::Usage);
@@ -84,7 +85,7 @@ pub fn read_options(
     }
 }
 
-/// What an error of `clap` comes to: each but want of memory is one of the words.
+// What an error of `clap` comes to: each but want of memory is one of the words.
 fn refusal_of(error: &clap::Error) -> OptionsError
     ensures usage { result ≡ Usage → kind_of error.now ≢ OutOfMemory }
     ensures memory { result ≡ Memory → kind_of error.now ≡ OutOfMemory }
@@ -95,23 +96,24 @@ fn refusal_of(error: &clap::Error) -> OptionsError
     }
 }
 
-/// Whether no word is `--`, behind which `clap` reads no options.
+// Whether no word is `--`, behind which `clap` reads no options.
 fn are_words(words: &[String]) -> bool
     ensures { result ≡ list_all (λ word. is_word (string_bytes word)) words.now }
 {
     words.iter().all(|word| is_option_word(word.as_str()))
 }
 
-/// Whether the word is not `--`.
+// Whether the word is not `--`.
 fn is_option_word(word: &str) -> bool
     ensures { result ≡ is_word word.now }
 {
     word != "--"
 }
 
-/// The command that takes these options.
+// The command that takes these options.
 fn command_for<'a>(alloc: Global, options: &[CommandOption]) -> Result<Command<'a>, AllocError>
-    ensures { IfOk result (λ command. app_of command ≡ asked_app (codes "xpush") (map name_of options.now)) }
+    ensures { IfOk result (λ command. app_of command ≡
+        asked_app (codes "xpush") (map name_of options.now)) }
 {
     let mut command = Command::new(alloc, "xpush")
         .no_binary_name(true)
@@ -122,7 +124,7 @@ fn command_for<'a>(alloc: Global, options: &[CommandOption]) -> Result<Command<'
     Ok(command)
 }
 
-/// The argument that is spelt `--name` and takes one value.
+// The argument that is spelt `--name` and takes one value.
 fn option_arg<'a>(alloc: Global, name: &'a str) -> Arg<'a>
     ensures rule { rule_of_arg result ≡ asked_rule name.entry.now }
     ensures local { result.global ≡ false }
@@ -130,10 +132,11 @@ fn option_arg<'a>(alloc: Global, name: &'a str) -> Arg<'a>
     Arg::new(alloc, name).long(name).action(ArgAction::Set)
 }
 
-/// Writes the value of each option at its place, where each has one.
+// Writes the value of each option at its place, where each has one.
 fn write_values(options: &[CommandOption], matches: &ArgMatches<'_>, values: &mut [u32]) -> bool
     requires { length options.now ≡ length values.old }
-    ensures { HasWritten (all_of (map (value_found (found_of matches.now)) options.now)) result values.new }
+    ensures { HasWritten (all_of (map (value_found (found_of matches.now)) options.now)) result
+        values.new }
 {
     for (place, option) in options.iter().enumerate() {
         match value_of(option, matches) {
@@ -144,7 +147,7 @@ fn write_values(options: &[CommandOption], matches: &ArgMatches<'_>, values: &mu
     true
 }
 
-/// The value of the option: its text's, or its default.
+// The value of the option: its text's, or its default.
 fn value_of(option: &CommandOption, matches: &ArgMatches<'_>) -> Option<u32>
     ensures { result ≡ value_found (found_of matches.now) option.now }
 {

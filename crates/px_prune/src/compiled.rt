@@ -14,8 +14,9 @@ use std::marker::Model;
 use std::sync::Arc;
 
 /// A program with what a machine that keeps only needed states asks of it: what the bodies of its
-/// states need, and the first states of all filters. It is computed once, and any number of machines
-/// have a share of it, on any threads. Contracts see the program, of which all else follows.
+/// states need, and the first states of all filters. It is computed once, and any number of
+/// machines have a share of it, on any threads. Contracts see the program, of which all else
+/// follows.
 #[derive(Drop)]
 pub struct Compiled {
     program: Arc<Program>,
@@ -34,7 +35,9 @@ impl Model for Compiled {
 
     ghost view = { λ compiled. arc_value compiled.program };
 
-    ghost invariant = { λ compiled. (compiled.needs ≡ needs_of (arc_value compiled.program).states) × (compiled.firsts ≡ first_set (arc_value compiled.program).firsts) };
+    ghost invariant = { λ compiled. (compiled.needs ≡
+        needs_of (arc_value compiled.program).states) ×
+        (compiled.firsts ≡ first_set (arc_value compiled.program).firsts) };
 }
 
 impl Compiled {

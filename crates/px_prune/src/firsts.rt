@@ -21,7 +21,8 @@ pub fn first(alloc: Global, program: &Program) -> Result<Set, AllocError>
 
 // The first states of the filters, in order of these.
 fn first_states(alloc: Global, program: &Program) -> Result<Vec<u32>, AllocError>
-    ensures states { IfOk result (λ states. states.items ≡ map (λ (f : First). f.state) program.now.firsts) }
+    ensures states { IfOk result (λ states. states.items ≡
+        map (λ (f : First). f.state) program.now.firsts) }
 {
     let mut states = Vec::new(alloc);
     for first in program.firsts() {

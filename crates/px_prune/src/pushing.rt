@@ -28,7 +28,8 @@ fn gathered(
     need: &Set,
     label: u32,
 ) -> Result<Vec<u32>, AllocError>
-    ensures members { IfOk result (λ inside. (k : ℕ) → has inside.items k ≡ has (pushed compiled.now.states need.now label) k) }
+    ensures members { IfOk result (λ inside. (k : ℕ) →
+        has inside.items k ≡ has (pushed compiled.now.states need.now label) k) }
 {
     let mut inside = Vec::new(alloc);
     for p in need.as_slice() {
@@ -40,7 +41,9 @@ fn gathered(
 
 // Adds what the body of a state needs, if the child meets its test.
 fn add_met(compiled: &Compiled, label: u32, p: u32, inside: &mut Vec<u32>) -> Result<(), AllocError>
-    ensures added { IfOk result (λ _. (k : ℕ) → has inside.new.items k ≡ (has inside.old.items k || is_met_need compiled.now.states label p k)) }
+    ensures added { IfOk result (λ _. (k : ℕ) →
+        has inside.new.items k ≡ (has inside.old.items k || is_met_need compiled.now.states label p
+        k)) }
 {
     if compiled.program().is_met(p, label) {
         inside.extend_from_slice(compiled.needs().of(p))?;
@@ -55,7 +58,9 @@ fn add_lasting(
     p: u32,
     inside: &mut Vec<u32>,
 ) -> Result<(), AllocError>
-    ensures added { IfOk result (λ _. (k : ℕ) → has inside.new.items k ≡ (has inside.old.items k || is_lasting_need program.now.states label p k)) }
+    ensures added { IfOk result (λ _. (k : ℕ) →
+        has inside.new.items k ≡ (has inside.old.items k || is_lasting_need program.now.states label
+        p k)) }
 {
     if program.is_element(label) && is_lasting(program, p) {
         inside.push(p)?;

@@ -18,7 +18,8 @@ use std::alloc::{AllocError, Global};
 pub fn row_of(alloc: Global, program: &Program, n: u32) -> Result<Vec<u32>, AllocError>
     requires sound { IsSound program.now }
     requires there { n < length program.now.states }
-    ensures row { IfOk result (λ row. row.items ≡ path_need program.now.states (state_at program.now.states n)) }
+    ensures row { IfOk result (λ row. row.items ≡
+        path_need program.now.states (state_at program.now.states n)) }
 {
     match program.state(n) {
         State::Path { body, .. } => body_row(alloc, program, *body),
@@ -57,7 +58,8 @@ fn state_row(alloc: Global, program: &Program, n: u32) -> Result<Vec<u32>, Alloc
 fn add_needs(program: &Program, n: u32, needed: &mut Vec<u32>) -> Result<(), AllocError>
     requires sound { IsSound program.now }
     requires there { n < length program.now.states }
-    ensures added { IfOk result (λ _. (k : ℕ) → has needed.new.items k ≡ (has needed.old.items k || needs program.now.states n k)) }
+    ensures added { IfOk result (λ _. (k : ℕ) →
+        has needed.new.items k ≡ (has needed.old.items k || needs program.now.states n k)) }
 {
     match program.state(n) {
         State::Path { .. } => add(n, needed),
@@ -73,7 +75,9 @@ fn add_needs(program: &Program, n: u32, needed: &mut Vec<u32>) -> Result<(), All
 fn add_part_needs(program: &Program, parts: &[u64], needed: &mut Vec<u32>) -> Result<(), AllocError>
     requires sound { IsSound program.now }
     requires there { list_all (λ p. nat_lt p (length program.now.states)) parts.now ≡ true }
-    ensures added { IfOk result (λ _. (k : ℕ) → has needed.new.items k ≡ (has needed.old.items k || list_any (λ p. needs program.now.states p k) parts.now)) }
+    ensures added { IfOk result (λ _. (k : ℕ) →
+        has needed.new.items k ≡ (has needed.old.items k || list_any
+        (λ p. needs program.now.states p k) parts.now)) }
 {
     for part in parts {
         add_needs(program, *part as u32, needed)?;

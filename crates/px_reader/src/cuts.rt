@@ -26,7 +26,7 @@ pub fn without_end(line: &[u8]) -> &[u8]
     }
 }
 
-/// What stands before a line feed, without a carriage return at its end.
+// What stands before a line feed, without a carriage return at its end.
 fn without_return(content: &[u8]) -> &[u8]
     ensures { result.now ≡ without_end (content.now ++ 10 ∷ []) }
 {

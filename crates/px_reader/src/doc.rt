@@ -75,7 +75,7 @@ impl Doc {
     }
 }
 
-/// Reads a document for its verdict and its events.
+// Reads a document for its verdict and its events.
 fn read_whole(alloc: Global, bytes: &[u8]) -> Result<EventList, ReaderFault>
     ensures spelt { OnOk result (SpellsTree bytes.now) }
     ensures events { IfOk result (λ events. AreTreeEvents bytes.now events) }

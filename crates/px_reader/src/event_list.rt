@@ -120,7 +120,7 @@ impl EventList {
         }
     }
 
-    /// Puts an event of this kind behind the others, by its name or text and its value.
+    // Puts an event of this kind behind the others, by its name or text and its value.
     fn add(&mut self, kind: MarkKind, first: &[u8], second: &[u8]) -> Result<(), AllocError>
         ensures ok { OnOk result (self.new ≡ self.old ++ made_of kind first.now second.now ∷ []) }
         ensures err { OnErr result (self.new ≡ self.old) }
@@ -133,14 +133,20 @@ impl EventList {
     }
 }
 
-/// The mark of an event whose bytes, so many, come behind others.
+// The mark of an event whose bytes, so many, come behind others.
 fn mark_behind(
     start: usize,
     kind: MarkKind,
     first: usize,
     second: usize,
 ) -> Result<Mark, AllocError>
-    ensures { IfOk result (λ mark. mark ≡ record { kind = kind; start = start; middle = start + first; end = start + first + second }) }
+    ensures { IfOk result (λ mark. mark ≡
+        record {
+          kind = kind;
+          start = start;
+          middle = start + first;
+          end = start + first + second;
+        }) }
 {
     if start > MAX_BYTES || first > MAX_BYTES - start || second > MAX_BYTES - start - first {
         return Err(AllocError);
@@ -153,7 +159,7 @@ fn mark_behind(
     })
 }
 
-/// The bytes between two places.
+// The bytes between two places.
 fn part(bytes: &[u8], start: u32, end: u32) -> &[u8]
     requires { (start ≤ end) × (end ≤ length bytes.now) }
     ensures { result.now ≡ part_of bytes.now start end }

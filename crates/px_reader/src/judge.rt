@@ -53,12 +53,14 @@ impl Judge {
     /// Takes the next bytes of the document, and appends the events that are known. A line is
     /// judged when its line feed comes. Once a fault has come, each call answers it.
     pub fn feed(&mut self, piece: &[u8], out: &mut Vec<Event>) -> Result<(), ReaderFault>
-        ensures reads { OnOk result (ReadsPart (progress self.old) (progress self.new) piece.now out.old.items out.new.items) }
+        ensures reads { OnOk result (ReadsPart (progress self.old) (progress self.new) piece.now
+            out.old.items out.new.items) }
         ensures small { OnOk result (StaysSmall (progress self.old) piece.now) }
         ensures gives { GivesMore (progress self.old) out.old.items out.new.items }
         ensures appends { Appends out.old.items out.new.items }
         ensures fault { IfErr result (λ fault. FailsBy (progress self.old) piece.now fault) }
-        ensures stops { IfErr result (λ fault. StopsBy (progress self.old) piece.now fault out.old.items out.new.items) }
+        ensures stops { IfErr result (λ fault. StopsBy (progress self.old) piece.now fault
+            out.old.items out.new.items) }
         ensures failed { IfErr result (λ fault. HasFailed (progress self.new) fault) }
         ensures stays { (fault : faults.ReaderFault) → HasFailed (progress self.old) fault →
             (result ≡ Err fault) × (out.new.items ≡ out.old.items) }
@@ -82,7 +84,8 @@ impl Judge {
         ensures gives { GivesMore (progress self.old) out.old.items out.new.items }
         ensures appends { Appends out.old.items out.new.items }
         ensures fault { IfErr result (λ fault. FailsAtEnd (progress self.old) fault) }
-        ensures stops { IfErr result (λ fault. StopsAtEnd (progress self.old) fault out.old.items out.new.items) }
+        ensures stops { IfErr result (λ fault. StopsAtEnd (progress self.old) fault out.old.items
+            out.new.items) }
         ensures failed { IfErr result (λ fault. HasFailed (progress self.new) fault) }
         ensures stays { (fault : faults.ReaderFault) → HasFailed (progress self.old) fault →
             (result ≡ Err fault) × (out.new.items ≡ out.old.items) }
@@ -106,15 +109,17 @@ impl Judge {
         self.scanner.is_behind_root()
     }
 
-    /// Takes the lines that end in the piece, and keeps what is behind them.
+    // Takes the lines that end in the piece, and keeps what is behind them.
     fn take_piece(&mut self, piece: &[u8], out: &mut Vec<Event>) -> Result<(), ReaderFault>
         ensures same { self.new.fault ≡ self.old.fault }
-        ensures reads { OnOk result (ReadsPart (progress self.old) (progress self.new) piece.now out.old.items out.new.items) }
+        ensures reads { OnOk result (ReadsPart (progress self.old) (progress self.new) piece.now
+            out.old.items out.new.items) }
         ensures small { OnOk result (StaysSmall (progress self.old) piece.now) }
         ensures gives { GivesMore (progress self.old) out.old.items out.new.items }
         ensures appends { Appends out.old.items out.new.items }
         ensures fault { IfErr result (λ fault. FailsBy (progress self.old) piece.now fault) }
-        ensures stops { IfErr result (λ fault. StopsBy (progress self.old) piece.now fault out.old.items out.new.items) }
+        ensures stops { IfErr result (λ fault. StopsBy (progress self.old) piece.now fault
+            out.old.items out.new.items) }
     {
         let mut rest = piece;
         while let Some(feed) = memchr(b'\n', rest) {
@@ -124,11 +129,12 @@ impl Judge {
         self.begin_line(rest)
     }
 
-    /// Takes the part of the piece that ends a line.
+    // Takes the part of the piece that ends a line.
     fn end_line(&mut self, part: &[u8], out: &mut Vec<Event>) -> Result<(), ReaderFault>
         requires { IsTrue (is_ended part.now) }
         ensures same { self.new.fault ≡ self.old.fault }
-        ensures reads { OnOk result (ReadsPart (progress self.old) (progress self.new) part.now out.old.items out.new.items) }
+        ensures reads { OnOk result (ReadsPart (progress self.old) (progress self.new) part.now
+            out.old.items out.new.items) }
         ensures fault { IfErr result (λ fault. FailsBy (progress self.old) part.now fault) }
         ensures line { IfErr result (λ fault. StandsAt (self.old.extent.lines + 1) fault) }
         ensures appends { Appends out.old.items out.new.items }
@@ -144,7 +150,7 @@ impl Judge {
         Ok(())
     }
 
-    /// Judges the line that ends with the part, where it lies unless earlier pieces began it.
+    // Judges the line that ends with the part, where it lies unless earlier pieces began it.
     fn take_line(&mut self, part: &[u8], out: &mut Vec<Event>) -> Result<(), LineFault>
         requires { is_ended part.now ≡ true }
         ensures fault { self.new.fault ≡ self.old.fault }
@@ -153,7 +159,8 @@ impl Judge {
         ensures appends { Appends out.old.items out.new.items }
         ensures given { OnErr result (out.new.items ≡ out.old.items) }
         ensures judged { (begun : List ℕ) → self.old.kept.items ≡ take 1_048_579 begun →
-            Judging (state_apart self.old.scanner) (begun ++ part.now) result (state_apart self.new.scanner)
+            Judging (state_apart self.old.scanner) (begun ++
+            part.now) result (state_apart self.new.scanner)
             out.old.items out.new.items }
     {
         if self.kept.is_empty() {
@@ -171,12 +178,13 @@ impl Judge {
         judged
     }
 
-    /// Keeps the part of the piece that begins a line, or goes on with it.
+    // Keeps the part of the piece that begins a line, or goes on with it.
     fn begin_line(&mut self, part: &[u8]) -> Result<(), ReaderFault>
         requires { IsTrue (has_no_feed part.now) }
         ensures same { self.new.fault ≡ self.old.fault }
         ensures reads { OnOk result ((bytes : List ℕ) (given : List events.Event) →
-            HasRead (progress self.old) bytes given → HasRead (progress self.new) (bytes ++ part.now) given) }
+            HasRead (progress self.old) bytes given →
+            HasRead (progress self.new) (bytes ++ part.now) given) }
         ensures fault { IfErr result (λ fault. FailsBy (progress self.old) part.now fault) }
         ensures line { IfErr result (λ fault. StandsAt (self.old.extent.lines + 1) fault) }
     {
@@ -188,13 +196,14 @@ impl Judge {
         Ok(())
     }
 
-    /// Judges what no line feed ends, and whether the root is closed.
+    // Judges what no line feed ends, and whether the root is closed.
     fn finish(&mut self, out: &mut Vec<Event>) -> Result<(), ReaderFault>
         ensures tree { OnOk result (EndsWhole (progress self.old) out.old.items out.new.items) }
         ensures gives { GivesMore (progress self.old) out.old.items out.new.items }
         ensures appends { Appends out.old.items out.new.items }
         ensures fault { IfErr result (λ fault. FailsAtEnd (progress self.old) fault) }
-        ensures stops { IfErr result (λ fault. StopsAtEnd (progress self.old) fault out.old.items out.new.items) }
+        ensures stops { IfErr result (λ fault. StopsAtEnd (progress self.old) fault out.old.items
+            out.new.items) }
     {
         let line = self.take_last(out)?;
         if !self.scanner.is_behind_root() {
@@ -206,12 +215,14 @@ impl Judge {
         Ok(())
     }
 
-    /// Judges what no line feed ends, and counts all lines.
+    // Judges what no line feed ends, and counts all lines.
     fn take_last(&mut self, out: &mut Vec<Event>) -> Result<u64, ReaderFault>
         ensures reads { IfOk result (λ lines.
-            ReadsLines (progress self.old) (state_apart self.new.scanner) lines out.old.items out.new.items) }
+            ReadsLines (progress self.old) (state_apart self.new.scanner) lines out.old.items
+            out.new.items) }
         ensures fault { IfErr result (λ fault. FailsAtEnd (progress self.old) fault) }
-        ensures stops { IfErr result (λ fault. StopsAtEnd (progress self.old) fault out.old.items out.new.items) }
+        ensures stops { IfErr result (λ fault. StopsAtEnd (progress self.old) fault out.old.items
+            out.new.items) }
         ensures appends { Appends out.old.items out.new.items }
         ensures kept { OnErr result (out.new.items ≡ out.old.items) }
     {
@@ -230,7 +241,7 @@ impl Judge {
         Ok(self.extent.lines() + 1)
     }
 
-    /// Makes the reader ready for the next document.
+    // Makes the reader ready for the next document.
     fn clear(&mut self)
         ensures { HasRead (progress self.new) [] [] }
     {
@@ -241,7 +252,7 @@ impl Judge {
     }
 }
 
-/// Appends the part of a line to what is kept of it.
+// Appends the part of a line to what is kept of it.
 fn keep(kept: &mut Vec<u8>, part: &[u8]) -> Result<(), AllocError>
     ensures { OnOk result (kept.new.items ≡
         kept.old.items ++ take (1_048_579 - length kept.old.items) part.now) }

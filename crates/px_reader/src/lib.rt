@@ -3,8 +3,8 @@
 //! `specs/` says which lines spell which tree, and what the verdict on some bytes is. A [`Reader`]
 //! is fed the bytes in any pieces and gives the events; a [`Doc`] holds bytes that spell a tree.
 //!
-//! A scanner judges each line where it lies: what it brings is seen as a [`Happening`], an event that
-//! borrows its bytes. A [`Recorder`] takes a document line by line so, and keeps its events.
+//! A scanner judges each line where it lies: what it brings is seen as a [`Happening`], an event
+//! that borrows its bytes. A [`Recorder`] takes a document line by line so, and keeps its events.
 #![tactic(auto)]
 
 mod cuts;

@@ -14,7 +14,8 @@ const MAX_KEPT: usize = 1_048_579;
 #[derive(Clone, Copy, Debug, PartialEq, Eq)]
 pub enum PushFault {
     Memory,
-    /// It ends a line of so many bytes that not all of them were kept, and which is too long by that.
+    /// It ends a line of so many bytes that not all of them were kept, and which is too long by
+    /// that.
     LineLong(u64),
 }
 
@@ -111,7 +112,8 @@ impl Lines {
     /// Whether the whole lines are known to be text.
     pub fn is_text(&self) -> bool
         ensures { IsTrue result → (end : ℕ) → self.now.at < end → end ≤ length (piece self.now) →
-            is_ended (line_to (piece self.now) self.now.at end) ≡ true → IsUtf8 (line_to (piece self.now) self.now.at end) }
+            is_ended (line_to (piece self.now) self.now.at end) ≡ true →
+            IsUtf8 (line_to (piece self.now) self.now.at end) }
     {
         self.is_text
     }
@@ -129,7 +131,8 @@ impl Lines {
 
     /// What is kept of the line that has begun: all of it, or enough to show that it is too long.
     pub fn begun(&self) -> &[u8]
-        ensures { (unread : List ℕ) → ready self.now ≡ [] → IsUnread self.now unread → result.now ≡ take 1_048_579 unread }
+        ensures { (unread : List ℕ) → ready self.now ≡ [] → IsUnread self.now unread →
+            result.now ≡ take 1_048_579 unread }
     {
         &self.bytes[self.whole..]
     }
@@ -137,13 +140,14 @@ impl Lines {
     /// How many bytes the line has that has begun.
     pub fn begun_size(&self) -> u64
         ensures size { result ≡ begun_size self.now }
-        ensures all { (unread : List ℕ) → ready self.now ≡ [] → IsUnread self.now unread → result ≡ length unread }
+        ensures all { (unread : List ℕ) → ready self.now ≡ [] → IsUnread self.now unread →
+            result ≡ length unread }
     {
         (self.bytes.len() - self.whole) as u64 + self.lost
     }
 
-    /// Adds a piece, where no whole line is left. Where bytes lay before is then no longer so. Where memory is
-    /// refused, what is unread is not known.
+    /// Adds a piece, where no whole line is left. Where bytes lay before is then no longer so.
+    /// Where memory is refused, what is unread is not known.
     pub fn push(&mut self, piece: &[u8]) -> Result<(), PushFault>
         requires none { ready self.old ≡ [] }
         requires room { begun_size self.old + length piece.now < 2 ^ 64 }
@@ -166,7 +170,7 @@ impl Lines {
         Ok(())
     }
 
-    /// Forgets the lines that are taken, where all are: the line that has begun stands at the front.
+    // Forgets the lines that are taken, where all are: the line that has begun stands at the front.
     fn settle(&mut self)
         requires { ready self.old ≡ [] }
         ensures front { (self.new.at ≡ 0) × (self.new.whole ≡ 0) }
@@ -179,13 +183,17 @@ impl Lines {
         self.is_text = true;
     }
 
-    /// Keeps a part of the line that has begun.
+    // Keeps a part of the line that has begun.
     fn keep(&mut self, part: &[u8]) -> Result<(), AllocError>
         requires feed { has_no_feed part.now ≡ true }
         requires room { begun_size self.old + length part.now < 2 ^ 64 }
-        ensures same { (self.new.at ≡ self.old.at) × (self.new.whole ≡ self.old.whole) × (self.new.is_text ≡ self.old.is_text) }
-        ensures kept { OnOk result (self.new.bytes.items ≡ self.old.bytes.items ++ take (1_048_579 - (length self.old.bytes.items - self.old.whole)) part.now) }
-        ensures lost { OnOk result (self.new.lost ≡ self.old.lost + (length part.now - (1_048_579 - (length self.old.bytes.items - self.old.whole)))) }
+        ensures same { (self.new.at ≡ self.old.at) × (self.new.whole ≡ self.old.whole) ×
+            (self.new.is_text ≡ self.old.is_text) }
+        ensures kept { OnOk result (self.new.bytes.items ≡ self.old.bytes.items ++
+            take (1_048_579 - (length self.old.bytes.items - self.old.whole)) part.now) }
+        ensures lost { OnOk result (self.new.lost ≡
+            self.old.lost + (length part.now -
+            (1_048_579 - (length self.old.bytes.items - self.old.whole)))) }
     {
         let room = MAX_KEPT.saturating_sub(self.bytes.len() - self.whole);
         let end = room.min(part.len());
@@ -195,7 +203,7 @@ impl Lines {
     }
 }
 
-/// How many bytes the first line has, with its line feed.
+// How many bytes the first line has, with its line feed.
 fn line_length(bytes: &[u8]) -> usize
     requires { has_no_feed bytes.now ≡ false }
     ensures within { (0 < result) × (result ≤ length bytes.now) }
@@ -207,7 +215,7 @@ fn line_length(bytes: &[u8]) -> usize
     }
 }
 
-/// Takes the first bytes away, so many of them.
+// Takes the first bytes away, so many of them.
 fn cut_front(bytes: &mut Vec<u8>, count: usize)
     requires { count ≤ length bytes.old.items }
     ensures { bytes.new.items ≡ drop count bytes.old.items }

@@ -97,7 +97,7 @@ impl NameStack {
     }
 }
 
-/// Whether a name is among those that begin at these places.
+// Whether a name is among those that begin at these places.
 fn stands_in(bytes: &[u8], starts: &[usize], name: &[u8]) -> bool
     requires { AreCut (length bytes.now) (reverse starts.now) }
     ensures { result ≡ is_among name.now (names_in bytes.now (reverse starts.now)) }

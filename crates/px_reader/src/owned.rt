@@ -1,4 +1,5 @@
-//! Lines of which nothing is held: each is judged where it lies, and its events have bytes of their own.
+//! Lines of which nothing is held: each is judged where it lies, and its events have bytes of their
+//! own.
 
 ghost use Rattle.std.specs.Prelude.{◌≡◌, ◌++◌, [], ◌∷◌, true, false, Ok, IsTrue, IsUtf8, IfErr, OnOk};
 ghost use Rattle.px_reader.specs.declared.scanner.Own.TheVariants as Own;
@@ -30,7 +31,8 @@ pub fn judge_line(
     requires run { scanner.old.run ≡ Place.Apart }
     requires value { scanner.old.value ≡ Place.Apart }
     requires ended { IsTrue is_ended → lines.is_ended line.now ≡ true }
-    ensures judged { Judging (state_apart scanner.old) line.now result (state_apart scanner.new) out.old.items out.new.items }
+    ensures judged { Judging (state_apart scanner.old) line.now result (state_apart scanner.new)
+        out.old.items out.new.items }
     ensures run { scanner.new.run ≡ Place.Apart }
     ensures value { scanner.new.value ≡ Place.Apart }
 {
@@ -45,7 +47,7 @@ pub fn judge_line(
     }
 }
 
-/// Judges a line, and appends what it brings, or some of it where memory is refused.
+// Judges a line, and appends what it brings, or some of it where memory is refused.
 fn take_line(
     scanner: &mut Scanner,
     alloc: Global,
@@ -56,7 +58,8 @@ fn take_line(
     requires run { scanner.old.run ≡ Place.Apart }
     requires value { scanner.old.value ≡ Place.Apart }
     requires ended { IsTrue is_ended → lines.is_ended line.now ≡ true }
-    ensures judged { OnOk result (Judging (state_apart scanner.old) line.now (Ok tt) (state_apart scanner.new) out.old.items out.new.items) }
+    ensures judged { OnOk result (Judging (state_apart scanner.old) line.now (Ok tt)
+        (state_apart scanner.new) out.old.items out.new.items) }
     ensures fault { IfErr result (λ fault. Bars (state_apart scanner.old) line.now fault) }
     ensures appends { Appends out.old.items out.new.items }
     ensures run { OnOk result (scanner.new.run ≡ Place.Apart) }
@@ -68,7 +71,7 @@ fn take_line(
     Ok(())
 }
 
-/// Judges a line that is all of the piece.
+// Judges a line that is all of the piece.
 fn judge_whole(scanner: &mut Scanner, line: &[u8], is_ended: bool) -> Result<Told, LineFault>
     requires run { scanner.old.run ≡ Place.Apart }
     requires value { scanner.old.value ≡ Place.Apart }
@@ -89,7 +92,7 @@ fn is_text(line: &[u8]) -> bool
     str::from_utf8(line).is_ok()
 }
 
-/// Appends the events that a line brought: two at most.
+// Appends the events that a line brought: two at most.
 fn give(
     scanner: &Scanner,
     alloc: Global,
@@ -99,7 +102,8 @@ fn give(
 ) -> Result<(), AllocError>
     requires run { IsWithin piece.now scanner.now.run }
     requires value { IsWithin piece.now scanner.now.value }
-    ensures given { OnOk result (out.new.items ≡ out.old.items ++ brought_in piece.now told scanner.now) }
+    ensures given { OnOk result (out.new.items ≡ out.old.items ++
+        brought_in piece.now told scanner.now) }
     ensures appends { Appends out.old.items out.new.items }
 {
     let mut owed = told;
@@ -107,7 +111,7 @@ fn give(
     give_one(scanner, alloc, piece, &mut owed, out)
 }
 
-/// Appends the first of the events that are owed.
+// Appends the first of the events that are owed.
 fn give_one(
     scanner: &Scanner,
     alloc: Global,
@@ -117,7 +121,8 @@ fn give_one(
 ) -> Result<(), AllocError>
     requires run { IsWithin piece.now scanner.now.run }
     requires value { IsWithin piece.now scanner.now.value }
-    ensures given { OnOk result (out.new.items ++ brought_in piece.now owed.new scanner.now ≡ out.old.items ++ brought_in piece.now owed.old scanner.now) }
+    ensures given { OnOk result (out.new.items ++ brought_in piece.now owed.new scanner.now ≡
+        out.old.items ++ brought_in piece.now owed.old scanner.now) }
     ensures appends { Appends out.old.items out.new.items }
     ensures text { owed.new.text ≡ false }
     ensures own { owed.old.text ≡ false → owed.new.own ≡ Own.Nothing }
@@ -128,7 +133,7 @@ fn give_one(
     }
 }
 
-/// Appends an event with bytes of its own.
+// Appends an event with bytes of its own.
 fn append(alloc: Global, next: Happening<'_>, out: &mut Vec<Event>) -> Result<(), AllocError>
     ensures ok { OnOk result (out.new.items ≡ out.old.items ++ event_of next.entry ∷ []) }
     ensures appends { Appends out.old.items out.new.items }

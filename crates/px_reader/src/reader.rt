@@ -41,12 +41,14 @@ impl Reader {
     /// the others, and where memory is refused some of them. Once a fault has come, each call
     /// answers it, and appends nothing.
     pub fn feed(&mut self, piece: &[u8], out: &mut Vec<Event>) -> Result<(), ReaderFault>
-        ensures reads { OnOk result (ReadsPart self.old self.new piece.now out.old.items out.new.items) }
+        ensures reads { OnOk result (ReadsPart self.old self.new piece.now out.old.items
+            out.new.items) }
         ensures small { OnOk result (StaysSmall self.old piece.now) }
         ensures gives { GivesMore self.old out.old.items out.new.items }
         ensures appends { Appends out.old.items out.new.items }
         ensures fault { IfErr result (λ fault. FailsBy self.old piece.now fault) }
-        ensures stops { IfErr result (λ fault. StopsBy self.old piece.now fault out.old.items out.new.items) }
+        ensures stops { IfErr result (λ fault. StopsBy self.old piece.now fault out.old.items
+            out.new.items) }
         ensures failed { IfErr result (λ fault. HasFailed self.new fault) }
         ensures stays { (fault : faults.ReaderFault) → HasFailed self.old fault →
             (result ≡ Err fault) × (out.new.items ≡ out.old.items) }
@@ -64,7 +66,8 @@ impl Reader {
         ensures gives { GivesMore self.old out.old.items out.new.items }
         ensures appends { Appends out.old.items out.new.items }
         ensures fault { IfErr result (λ fault. FailsAtEnd self.old fault) }
-        ensures stops { IfErr result (λ fault. StopsAtEnd self.old fault out.old.items out.new.items) }
+        ensures stops { IfErr result (λ fault. StopsAtEnd self.old fault out.old.items
+            out.new.items) }
         ensures failed { IfErr result (λ fault. HasFailed self.new fault) }
         ensures stays { (fault : faults.ReaderFault) → HasFailed self.old fault →
             (result ≡ Err fault) × (out.new.items ≡ out.old.items) }

@@ -39,7 +39,8 @@ impl Model for Recorder {
 
     ghost view = { λ recorder. recorder.bytes.items };
 
-    ghost invariant = { λ recorder. HasRecorded recorder.scanner recorder.bytes.items recorder.events };
+    ghost invariant = { λ recorder. HasRecorded recorder.scanner recorder.bytes.items
+        recorder.events };
 }
 
 impl Recorder {
@@ -100,8 +101,10 @@ impl Recorder {
 
     /// Whether the lines are a document: whether its root is closed.
     pub fn is_closed(&self) -> bool
-        ensures closed { IsTrue result → (root : Root) × HasVerdict (recorded self.now) (IsTree root) }
-        ensures still_open { IsFalse result → (root : Root) → Spells (lines_of (recorded self.now)) root → ⊥ }
+        ensures closed { IsTrue result → (root : Root) ×
+            HasVerdict (recorded self.now) (IsTree root) }
+        ensures still_open { IsFalse result → (root : Root) →
+            Spells (lines_of (recorded self.now)) root → ⊥ }
     {
         self.scanner.is_behind_root()
     }
@@ -122,7 +125,8 @@ impl Recorder {
     pub fn end_with(&mut self, line: &[u8]) -> Result<Doc, LineFault>
         requires no_feed { has_no_feed line.now ≡ true }
         ensures doc { IfOk result (λ doc. content doc ≡ recorded self.old ++ line.now) }
-        ensures tree { OnOk result ((root : Root) × HasVerdict (recorded self.old ++ line.now) (IsTree root)) }
+        ensures tree { OnOk result ((root : Root) ×
+            HasVerdict (recorded self.old ++ line.now) (IsTree root)) }
         ensures none { recorded self.new ≡ [] }
         ensures fault { IfErr result (λ fault. RefusesEnd (recorded self.old) line.now fault) }
     {
@@ -140,7 +144,7 @@ impl Recorder {
     }
 }
 
-/// No lines any more.
+// No lines any more.
 fn forget(scanner: &mut Scanner, bytes: &mut Vec<u8>, events: &mut EventList)
     ensures records { Records scanner.new bytes.new.items events.new }
     ensures none { bytes.new.items ≡ [] }
@@ -150,7 +154,7 @@ fn forget(scanner: &mut Scanner, bytes: &mut Vec<u8>, events: &mut EventList)
     events.clear();
 }
 
-/// The document that these bytes are, with the events of its tree. They are moved out.
+// The document that these bytes are, with the events of its tree. They are moved out.
 fn doc_of(alloc: Global, bytes: &mut Vec<u8>, events: &mut EventList) -> Doc
     requires closed { (root : Root) × HasVerdict bytes.old.items (IsTree root) }
     requires events { AreTreeEvents bytes.old.items events.old }
@@ -164,7 +168,7 @@ fn doc_of(alloc: Global, bytes: &mut Vec<u8>, events: &mut EventList) -> Doc
     Doc::told(Bytes::from_vec(held), told)
 }
 
-/// Takes what no line feed ends, if there is something, and finds the root closed.
+// Takes what no line feed ends, if there is something, and finds the root closed.
 fn close(
     scanner: &mut Scanner,
     bytes: &mut Vec<u8>,
@@ -186,7 +190,7 @@ fn close(
     Ok(())
 }
 
-/// Takes what no line feed ends, if there is something.
+// Takes what no line feed ends, if there is something.
 fn take_last(
     scanner: &mut Scanner,
     bytes: &mut Vec<u8>,
@@ -206,7 +210,7 @@ fn take_last(
     take_line(scanner, bytes, events, line, false)
 }
 
-/// Takes a line behind the others, which may be known to be an ended line of UTF-8.
+// Takes a line behind the others, which may be known to be an ended line of UTF-8.
 fn take_line(
     scanner: &mut Scanner,
     bytes: &mut Vec<u8>,
@@ -215,7 +219,8 @@ fn take_line(
     is_text: bool,
 ) -> Result<(), LineFault>
     requires records { Records scanner.old bytes.old.items events.old }
-    requires line { lines_of (bytes.old.items ++ line.now) ≡ lines_of bytes.old.items ++ line.now ∷ [] }
+    requires line { lines_of (bytes.old.items ++ line.now) ≡ lines_of bytes.old.items ++
+        line.now ∷ [] }
     requires some { 0 < length line.now }
     requires text { IsTrue is_text → (is_ended line.now ≡ true) × IsUtf8 line.now }
     ensures same { OnOk result (bytes.new.items ≡ bytes.old.items ++ line.now) }
@@ -242,8 +247,10 @@ pub fn judge(
     requires run { IsWithin piece.now scanner.old.run }
     requires value { IsWithin piece.now scanner.old.value }
     requires first { at < length piece.now }
-    requires text { IsTrue is_text → (is_ended (line_to piece.now at (length piece.now)) ≡ true) × IsUtf8 (line_to piece.now at (length piece.now)) }
-    ensures judged { JudgesLine piece.now scanner.old (line_to piece.now at (length piece.now)) result scanner.new }
+    requires text { IsTrue is_text → (is_ended (line_to piece.now at (length piece.now)) ≡ true) ×
+        IsUtf8 (line_to piece.now at (length piece.now)) }
+    ensures judged { JudgesLine piece.now scanner.old (line_to piece.now at (length piece.now))
+        result scanner.new }
     ensures run { IsWithin piece.now scanner.new.run }
     ensures value { IsWithin piece.now scanner.new.value }
 {
@@ -256,7 +263,7 @@ pub fn judge(
     }
 }
 
-/// Puts the events that a line brought behind the others: two at most.
+// Puts the events that a line brought behind the others: two at most.
 fn record(
     events: &mut EventList,
     scanner: &Scanner,
@@ -272,7 +279,7 @@ fn record(
     record_one(events, scanner, piece, &mut owed)
 }
 
-/// Puts the first of the events that are owed behind the others.
+// Puts the first of the events that are owed behind the others.
 fn record_one(
     events: &mut EventList,
     scanner: &Scanner,
@@ -281,7 +288,8 @@ fn record_one(
 ) -> Result<(), AllocError>
     requires run { IsWithin piece.now scanner.now.run }
     requires value { IsWithin piece.now scanner.now.value }
-    ensures given { OnOk result (events.new ++ brought_in piece.now owed.new scanner.now ≡ events.old ++ brought_in piece.now owed.old scanner.now) }
+    ensures given { OnOk result (events.new ++ brought_in piece.now owed.new scanner.now ≡
+        events.old ++ brought_in piece.now owed.old scanner.now) }
     ensures text { owed.new.text ≡ false }
     ensures own { owed.old.text ≡ false → owed.new.own ≡ Own.Nothing }
 {

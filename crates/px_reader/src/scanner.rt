@@ -1,5 +1,5 @@
-//! What is kept between two lines of a document, and what each line does to it. No event is made: what a line
-//! brings is read off the piece that it lies in, and off the names.
+//! What is kept between two lines of a document, and what each line does to it. No event is made:
+//! what a line brings is read off the piece that it lies in, and off the names.
 
 ghost use Rattle.std.specs.Prelude.{◌≡◌, ◌<◌, ◌≤◌, ◌+◌, ◌-◌, [], ◌∷◌, List, ℕ, Bool, true, false, not, length, take, drop, IfOk, OnOk, OnErr, IfSome, IsTrue, IsFalse, IsUtf8, get_or, slice_index};
 ghost use Rattle.std.specs.List.{list_all};
@@ -93,8 +93,11 @@ impl Told {
     /// Gives the first of the events.
     pub fn give(&mut self) -> Seen
         ensures rest { (text name attribute value : List ℕ) →
-            told_events self.old text name attribute value ≡ seen_events result text name attribute value ++ told_events self.new text name attribute value }
-        ensures nothing { result ≡ Seen.Nothing → (self.new.text ≡ false) × (self.new.own ≡ Own.Nothing) }
+            told_events self.old text name attribute value ≡
+            seen_events result text name attribute value ++
+            told_events self.new text name attribute value }
+        ensures nothing { result ≡ Seen.Nothing → (self.new.text ≡ false) ×
+            (self.new.own ≡ Own.Nothing) }
         ensures text { self.new.text ≡ false }
         ensures own { self.old.text ≡ false → self.new.own ≡ Own.Nothing }
     {
@@ -178,7 +181,8 @@ impl Scanner {
         self.value = Place::Apart;
     }
 
-    /// What was seen last, borrowed from the piece and from what is kept; nothing where nothing was seen.
+    /// What was seen last, borrowed from the piece and from what is kept; nothing where nothing was
+    /// seen.
     pub fn happening<'a>(&'a self, piece: &'a [u8], seen: Seen) -> Option<Happening<'a>>
         requires run { IsWithin piece.now self.now.run }
         requires value { IsWithin piece.now self.now.value }
@@ -198,8 +202,8 @@ impl Scanner {
         }
     }
 
-    /// The quick way for a line `(name` with its line feed, which begins at a place of the piece. Nothing where
-    /// the line is of another form or at fault: then nothing has changed.
+    /// The quick way for a line `(name` with its line feed, which begins at a place of the piece.
+    /// Nothing where the line is of another form or at fault: then nothing has changed.
     pub fn quick_open(&mut self, piece: &[u8], at: usize) -> Result<Option<QuickLine>, AllocError>
         requires within { IsWithin piece.now self.old.run }
         requires first { (at < length piece.now) × (slice_index piece.now at ≡ 40) }
@@ -295,9 +299,10 @@ impl Scanner {
         }))
     }
 
-    /// Whether an attribute of this name may come.
+    // Whether an attribute of this name may come.
     fn may_give(&self, name: &[u8]) -> bool
-        ensures { IsTrue result → (self.now.phase ≡ Phase.Giving) × (is_none self.now.names ≡ false) × (is_among name.now self.now.attributes ≡ false)
+        ensures { IsTrue result → (self.now.phase ≡ Phase.Giving) ×
+            (is_none self.now.names ≡ false) × (is_among name.now self.now.attributes ≡ false)
             × (length self.now.attributes < 256) }
     {
         self.phase == Phase::Giving
@@ -334,7 +339,7 @@ impl Scanner {
         }))
     }
 
-    /// Goes on with the run by bytes of the piece, or begins one that lies there.
+    // Goes on with the run by bytes of the piece, or begins one that lies there.
     fn say(&mut self, piece: &[u8], start: usize, end: usize) -> Result<(), AllocError>
         requires within { IsWithin piece.now self.old.run }
         requires range { (start ≤ end) × (end ≤ length piece.now) }
@@ -352,7 +357,8 @@ impl Scanner {
         Ok(())
     }
 
-    /// Copies the run out of the piece, so that the piece may go. The value of the last attribute is given up.
+    /// Copies the run out of the piece, so that the piece may go. The value of the last attribute
+    /// is given up.
     pub fn hold(&mut self, piece: &[u8]) -> Result<(), AllocError>
         requires within { IsWithin piece.now self.old.run }
         ensures ok { OnOk result (Holds piece.now self.old self.new) }
@@ -439,7 +445,7 @@ impl Scanner {
         self.phase != Phase::Start && self.names.is_empty()
     }
 
-    /// Ends the run of texts that is open: whether it says anything.
+    // Ends the run of texts that is open: whether it says anything.
     fn end_run(&mut self) -> bool
         ensures names { self.new.names ≡ self.old.names }
         ensures ends { EndsRun self.old result self.new }
@@ -451,7 +457,8 @@ impl Scanner {
     }
 
     fn is_run_empty(&self) -> bool
-        ensures { (piece : List ℕ) → IsWithin piece self.now.run → result ≡ no_bytes (bytes_at piece self.now.text.items self.now.run) }
+        ensures { (piece : List ℕ) → IsWithin piece self.now.run →
+            result ≡ no_bytes (bytes_at piece self.now.text.items self.now.run) }
     {
         match self.run {
             Place::Apart => self.text.is_empty(),
@@ -460,8 +467,8 @@ impl Scanner {
     }
 }
 
-/// How many bytes stand before the first line feed, if no backslash is among them and they do not end with a carriage
-/// return.
+// How many bytes stand before the first line feed, if no backslash is among them and they do not
+// end with a carriage return.
 fn plain_length(bytes: &[u8]) -> Option<usize>
     ensures { IfSome result (λ count. IsPlain bytes.now count) }
 {
@@ -472,7 +479,7 @@ fn plain_length(bytes: &[u8]) -> Option<usize>
     Some(count)
 }
 
-/// Whether a carriage return stands before a place.
+// Whether a carriage return stands before a place.
 fn has_return_before(bytes: &[u8], at: usize) -> bool
     requires { at ≤ length bytes.now }
     ensures { IsFalse result → 0 < at → get_or bytes.now (at - 1) 0 ≡ 13 → ⊥ }
@@ -480,7 +487,7 @@ fn has_return_before(bytes: &[u8], at: usize) -> bool
     at > 0 && bytes[at - 1] == b'\r'
 }
 
-/// What stands behind a byte.
+// What stands behind a byte.
 fn behind(piece: &[u8], at: usize) -> &[u8]
     requires { at < length piece.now }
     ensures { result.now ≡ drop (at + 1) piece.now }
@@ -488,35 +495,37 @@ fn behind(piece: &[u8], at: usize) -> &[u8]
     &piece[at + 1..]
 }
 
-/// Whether a line feed stands there.
+// Whether a line feed stands there.
 fn has_feed(bytes: &[u8], at: usize) -> bool
     ensures { IsTrue result → (at < length bytes.now) × (get_or bytes.now at 0 ≡ 10) }
 {
     at < bytes.len() && bytes[at] == b'\n'
 }
 
-/// Whether a space stands there.
+// Whether a space stands there.
 fn has_space(bytes: &[u8], at: usize) -> bool
     ensures { IsTrue result → (at < length bytes.now) × (get_or bytes.now at 0 ≡ 32) }
 {
     at < bytes.len() && bytes[at] == b' '
 }
 
-/// Whether the bytes begin with a name.
+// Whether the bytes begin with a name.
 fn begins_with(bytes: &[u8], name: &[u8]) -> bool
-    ensures { IsTrue result → (length name.now ≤ length bytes.now) × (take (length name.now) bytes.now ≡ name.now) }
+    ensures { IsTrue result → (length name.now ≤ length bytes.now) ×
+        (take (length name.now) bytes.now ≡ name.now) }
 {
     name.len() <= bytes.len() && &bytes[..name.len()] == name
 }
 
-/// Whether the first bytes, so many of them, begin a name.
+// Whether the first bytes, so many of them, begin a name.
 fn begins_with_name(bytes: &[u8], count: usize) -> bool
-    ensures { IsTrue result → (0 < count) × (0 < length bytes.now) × (names.begins_name (get_or bytes.now 0 0) ≡ true) }
+    ensures { IsTrue result → (0 < count) × (0 < length bytes.now) ×
+        (names.begins_name (get_or bytes.now 0 0) ≡ true) }
 {
     count > 0 && bytes.len() > 0 && begins_name(bytes[0])
 }
 
-/// How many bytes at the front go on a name.
+// How many bytes at the front go on a name.
 fn name_length(bytes: &[u8]) -> usize
     ensures within { result ≤ length bytes.now }
     ensures name { list_all names.continues_name (take result bytes.now) ≡ true }

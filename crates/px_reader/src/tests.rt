@@ -8,7 +8,7 @@ use std::alloc::{AllocError, Global};
 use std::process::Abort;
 use std::test::Fail;
 
-/// Feeds the document in pieces of so many bytes.
+// Feeds the document in pieces of so many bytes.
 fn feed_all(
     reader: &mut Reader,
     document: &[u8],
@@ -23,7 +23,7 @@ fn feed_all(
     reader.end(events)
 }
 
-/// The events as lines, and the fault.
+// The events as lines, and the fault.
 fn outcome(alloc: Global, document: &[u8], size: usize) -> Result<Vec<u8>, AllocError>
     requires { 0 < size }
 {
@@ -79,7 +79,7 @@ fn check(rt: &impl Abort, alloc: Global, document: &[u8], want: &[u8]) -> Result
     Ok(())
 }
 
-/// Each text as often as its number says.
+// Each text as often as its number says.
 fn repeated(alloc: Global, parts: &[(&[u8], usize)]) -> Result<Vec<u8>, AllocError> {
     let mut document = Vec::new(alloc);
     for (text, count) in parts {
@@ -130,7 +130,7 @@ fn depths_lines_and_sizes(rt: HostRuntime) -> Result<(), Fail> {
     Ok(())
 }
 
-/// The first lines of an element with so many attributes.
+// The first lines of an element with so many attributes.
 fn many_attributes(alloc: Global, count: u32) -> Result<Vec<u8>, AllocError> {
     let mut document = repeated(alloc, &[(b"(a\n", 1)])?;
     for number in 0..count {
@@ -179,7 +179,10 @@ fn lists_of_events(rt: HostRuntime) -> Result<(), Fail> {
     assert_eq!(rt; events.len(), 4);
     assert!(rt; matches!(events.get(0), Happening::Start { name } if name == b"a".as_slice()));
     assert!(rt;
-        matches!(events.get(1), Happening::Attr { name, value } if name == b"b".as_slice() && value.is_empty())
+        matches!(
+            events.get(1),
+            Happening::Attr { name, value } if name == b"b".as_slice() && value.is_empty()
+        )
     );
     assert!(rt; matches!(events.get(2), Happening::Text { text } if text == b"cd".as_slice()));
     assert!(rt; matches!(events.get(3), Happening::End));

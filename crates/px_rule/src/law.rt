@@ -21,5 +21,6 @@ pub trait Law {
 
     ghost legal_short: { (log : List Self.Entry) → legal log → length log < 1048576 };
 
-    ghost one_answer: { (log : List Self.Entry) (op : Op) (a b : Operand) (x y : List ℕ) → right log op a b x → right log op a b y → x ≡ y };
+    ghost one_answer: { (log : List Self.Entry) (op : Op) (a b : Operand) (x y : List ℕ) →
+        right log op a b x → right log op a b y → x ≡ y };
 }

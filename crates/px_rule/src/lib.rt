@@ -38,23 +38,23 @@
 //!
 //! **The life of a bank.** The desk takes a bank with count 0 by one exchange that writes the new
 //! version, the building bit and count 0 ([`Shared::claim_step`]). It stores 0 to each place and
-//! takes the bit away. A pass that comes adds 1 to the count and reads the word as it was. Where that
-//! shows its version and no building bit it is inside, and the count keeps the bank from being
+//! takes the bit away. A pass that comes adds 1 to the count and reads the word as it was. Where
+//! that shows its version and no building bit it is inside, and the count keeps the bank from being
 //! taken until it leaves. Else it is stray, and leaves again.
 //!
-//! **The facts of a bank.** A set is named by the place of its node word, which has its least element
-//! and the number of the set of the others. A step word has the operation, its operands and the
-//! number of its answer. A fact is looked for along the path of its key, and is only ever written
-//! to the first empty place, after each earlier place was seen to hold another key. So a set has
-//! one number and a step one word, whoever comes first. What the words that a seat keeps tell
-//! of sets, steps and full paths stands in `specs/Kept.antt`.
+//! **The facts of a bank.** A set is named by the place of its node word, which has its least
+//! element and the number of the set of the others. A step word has the operation, its operands and
+//! the number of its answer. A fact is looked for along the path of its key, and is only ever
+//! written to the first empty place, after each earlier place was seen to hold another key. So a
+//! set has one number and a step one word, whoever comes first. What the words that a seat keeps
+//! tell of sets, steps and full paths stands in `specs/Kept.antt`.
 //!
 //! **The rule.** Ten clauses hold of all words and all views between any two steps of any seats,
-//! whatever the order. They stand one by one in `specs/Clauses.antt`, and a load tells that they held:
-//! one desk and one legal history; what was seen begins it; passes have different numbers; bank
-//! words count those inside; who is inside finds the bank standing; a kept word is still at its
-//! place while its bank has that version; a standing bank is right for its version; one bank
-//! at most is being built, and what was zeroed is 0; a failed claim found calls inside; and entries
+//! whatever the order. They stand one by one in `specs/Clauses.antt`, and a load tells that they
+//! held: one desk and one legal history; what was seen begins it; passes have different numbers;
+//! bank words count those inside; who is inside finds the bank standing; a kept word is still at
+//! its place while its bank has that version; a standing bank is right for its version; one bank at
+//! most is being built, and what was zeroed is 0; a failed claim found calls inside; and entries
 //! are those that their passes asked for, with one permit at most.
 //!
 //! **What lasts.** What a seat keeps of a bank at a version, what numbers stand for in its view and
@@ -64,8 +64,8 @@
 //!
 //! **No crate above can break a clause.** The words and the base's token are private here, so a
 //! step is made by a call of this crate or not at all. The base takes a step only with a proof that
-//! it keeps the rule, whatever the other seats did before it. The conditions of the calls, as that a
-//! place may be written only behind words of other keys, are what these proofs need.
+//! it keeps the rule, whatever the other seats did before it. The conditions of the calls, as that
+//! a place may be written only behind words of other keys, are what these proofs need.
 //!
 //! Not said: that a claim succeeds, which of two steps comes first, or that a seat that was dropped
 //! inside a bank ever leaves it.

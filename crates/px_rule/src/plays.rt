@@ -61,7 +61,8 @@ impl<L: Law, A: Aim> Play<(), View<L::Entry>> for Loading<L, A> {
     ghost use Rattle.px_rule.specs.Steps.{Loads};
     ghost use Rattle.px_rule.specs.Clauses.{Moment};
 
-    ghost then = { λ _ me n after. Loads L.who L.legal me.0 n after.0 × Moment L.who L.legal L.right A.shape me.0 n × (after.1 ≡ me.1) };
+    ghost then = { λ _ me n after. Loads L.who L.legal me.0 n after.0 ×
+        Moment L.who L.legal L.right A.shape me.0 n × (after.1 ≡ me.1) };
 }
 
 /// A load behind a join. It leaves the view.
@@ -73,7 +74,8 @@ impl<L: Law> Play<(), View<L::Entry>> for Telling<L> {
     ghost use Rattle.std.specs.Prelude.{◌≡◌};
     ghost use Rattle.px_rule.specs.Steps.{Told};
 
-    ghost then = { λ _ me n after. (after.0 ≡ me.0) × Told L.who L.legal me.0.past n × (after.1 ≡ me.1) };
+    ghost then = { λ _ me n after. (after.0 ≡ me.0) × Told L.who L.legal me.0.past n ×
+        (after.1 ≡ me.1) };
 }
 
 /// Accept.
@@ -119,7 +121,8 @@ impl<E, A: Aim> Play<(), View<E>> for Claiming<A> {
     ghost use Rattle.std.specs.Prelude.{◌≡◌};
     ghost use Rattle.px_rule.specs.Steps.{Claims};
 
-    ghost then = { λ _ me n after. Claims A.bank A.old A.version me.0 n after.0 × (after.1 ≡ me.1) };
+    ghost then = { λ _ me n after. Claims A.bank A.old A.version me.0 n after.0 ×
+        (after.1 ≡ me.1) };
 }
 
 /// Zero.
@@ -155,7 +158,8 @@ impl<L: Law, A: Aim> Play<(), View<L::Entry>> for Looking<L, A> {
     ghost use Rattle.std.specs.Prelude.{◌≡◌};
     ghost use Rattle.px_rule.specs.Steps.{Looked, Shown};
 
-    ghost then = { λ _ me n after. (Looked A.bank A.version A.place me.0 n after.0 × Shown L.right A.shape A.bank A.version A.place me.0 n) × (after.1 ≡ me.1) };
+    ghost then = { λ _ me n after. (Looked A.bank A.version A.place me.0 n after.0 ×
+        Shown L.right A.shape A.bank A.version A.place me.0 n) × (after.1 ≡ me.1) };
 }
 
 /// Write.
@@ -167,7 +171,8 @@ impl<L: Law, A: Aim> Play<(), View<L::Entry>> for Writing<L, A> {
     ghost use Rattle.std.specs.Prelude.{◌≡◌};
     ghost use Rattle.px_rule.specs.Steps.{Written, Shown};
 
-    ghost then = { λ _ me n after. (Written A.bank A.version A.place A.word me.0 n after.0 × Shown L.right A.shape A.bank A.version A.place me.0 n) × (after.1 ≡ me.1) };
+    ghost then = { λ _ me n after. (Written A.bank A.version A.place A.word me.0 n after.0 ×
+        Shown L.right A.shape A.bank A.version A.place me.0 n) × (after.1 ≡ me.1) };
 }
 
 /// Split: a note.

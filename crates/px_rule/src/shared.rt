@@ -25,10 +25,12 @@ impl<L: Law> Model for Shared<L> {
 
     ghost Value = { TableName };
 
-    ghost view = { λ shared. record { id = shared.table.words.shared.table_id; shape = shared.table.shape } };
+    ghost view = { λ shared. record
+        { id = shared.table.words.shared.table_id; shape = shared.table.shape } };
 }
 
-/// A seat of the table: the token with which steps are made. Contracts see its table and what it knows.
+/// A seat of the table: the token with which steps are made. Contracts see its table and what it
+/// knows.
 #[derive(Drop)]
 pub struct Seat<L: Law> {
     pub(crate) token: Token<L>,
@@ -43,9 +45,13 @@ impl<L: Law> Model for Seat<L> {
 
     ghost Value = { Seated L.Entry };
 
-    ghost view = { λ seat. record { table = record { id = seat.token.table_id; shape = seat.shape }; view = seat.token.me.0 } };
+    ghost view = { λ seat. record {
+      table = record { id = seat.token.table_id; shape = seat.shape };
+      view = seat.token.me.0;
+    } };
 
-    ghost invariant = { λ seat. (seat.token.me.1 ≡ []) × IsSeat seat.shape seat.bank seat.token.me.0 };
+    ghost invariant = { λ seat. (seat.token.me.1 ≡ []) ×
+        IsSeat seat.shape seat.bank seat.token.me.0 };
 }
 
 impl<L: Law> Shared<L> {
@@ -103,11 +109,13 @@ impl<L: Law> Shared<L> {
         }
     }
 
-    /// Makes a note of a pass with a permit for an entry that names it, once its own entries are all among those that it has seen.
+    /// Makes a note of a pass with a permit for an entry that names it, once its own entries are
+    /// all among those that it has seen.
     pub fn ask(&self, pass: &mut Seat<L>, entry: &L::Entry) -> Seat<L>
         requires table { pass.old.table ≡ self.now }
         requires pass { pass.old.view.past.kind ≡ Pass (L.who entry.now) }
-        requires own { named L.who (L.who entry.now) pass.old.view.past.seen ≡ pass.old.view.past.mine }
+        requires own { named L.who (L.who entry.now) pass.old.view.past.seen ≡
+            pass.old.view.past.mine }
         ensures table { (pass.new.table ≡ pass.old.table) × (result.table ≡ pass.old.table) }
         ensures pass { pass.new.view ≡ whole_asking (Some entry.now) pass.old.view }
         ensures note { result.view ≡ whole_note (Some entry.now) pass.old.view }
@@ -119,7 +127,9 @@ impl<L: Law> Shared<L> {
         }
     }
 
-    /// Takes a note without a permit into a pass, or a pass's note into the desk, with a permit only while the desk holds none. It tells that all that the seat has then seen begins one legal history: the desk's goes on from the note's, and a pass's from both.
+    /// Takes a note without a permit into a pass, or a pass's note into the desk, with a permit
+    /// only while the desk holds none. It tells that all that the seat has then seen begins one
+    /// legal history: the desk's goes on from the note's, and a pass's from both.
     pub fn join(&self, seat: &mut Seat<L>, note: Seat<L>)
         requires tables { (seat.old.table ≡ self.now) × (note.table ≡ self.now) }
         requires pair { CanJoin seat.old.view note.view }
@@ -127,7 +137,8 @@ impl<L: Law> Shared<L> {
         ensures view { seat.new.view ≡ joined seat.old.view note.view }
         ensures told { IsTold L.who L.legal seat.new.view }
         ensures heard { seat.old.view.past.kind ≡ Desk → IsHeard seat.old.view note.view }
-        ensures met { is_pass seat.old.view.past.kind ≡ true → IsMet seat.old.view note.view seat.new.view }
+        ensures met { is_pass seat.old.view.past.kind ≡ true →
+            IsMet seat.old.view note.view seat.new.view }
     {
         let Seat {
             token,
@@ -137,7 +148,8 @@ impl<L: Law> Shared<L> {
         self.table.join(&mut seat.token, token);
     }
 
-    /// Loads the version word. It tells that all the seat has seen begins one legal history of that length, and that the rule held.
+    /// Loads the version word. It tells that all the seat has seen begins one legal history of that
+    /// length, and that the rule held.
     pub fn load(&self, seat: &mut Seat<L>) -> u64
         requires table { seat.old.table ≡ self.now }
         ensures table { seat.new.table ≡ seat.old.table }

@@ -33,7 +33,8 @@ pub(crate) struct Table<L: Law> {
 impl<L: Law> Table<L> {
     pub(crate) fn create(alloc: Global, shape: Shape) -> Result<(Table<L>, Token<L>), AllocError>
         requires shape { IsShape shape }
-        ensures opens { IfOk result (λ t. (t.0.shape ≡ shape) × (t.1.table_id ≡ t.0.words.shared.table_id) × (t.1.me ≡ (opening_view shape, []))) }
+        ensures opens { IfOk result (λ t. (t.0.shape ≡ shape) ×
+            (t.1.table_id ≡ t.0.words.shared.table_id) × (t.1.me ≡ (opening_view shape, []))) }
     {
         let zeros = vec![in alloc; 0; word_count(&shape)]?;
         let (words, token) = Words::<L>::of_words(alloc, &zeros, &shape)?;
@@ -45,8 +46,10 @@ impl<L: Law> Table<L> {
         requires desk { desk.old.me.0.past.kind ≡ Desk }
         requires new { desk.old.me.0.past.seen ≡ [] }
         requires room { desk.old.me.0.past.made < 65 }
-        ensures desk { (desk.new.table_id ≡ desk.old.table_id) × (desk.new.me ≡ (whole_more desk.old.me.0, desk.old.me.1)) }
-        ensures pass { (result.table_id ≡ desk.old.table_id) × (result.me ≡ (whole_pass desk.old.me.0, [])) }
+        ensures desk { (desk.new.table_id ≡ desk.old.table_id) ×
+            (desk.new.me ≡ (whole_more desk.old.me.0, desk.old.me.1)) }
+        ensures pass { (result.table_id ≡ desk.old.table_id) ×
+            (result.me ≡ (whole_pass desk.old.me.0, [])) }
     {
         self.words.shared.split_seat::<Making>(desk)
     }
@@ -54,7 +57,8 @@ impl<L: Law> Table<L> {
     pub(crate) fn note(&self, seat: &mut Token<L>) -> Token<L>
         requires table { seat.old.table_id ≡ self.now.words.shared.table_id }
         ensures seat { (seat.new.table_id ≡ seat.old.table_id) × (seat.new.me ≡ seat.old.me) }
-        ensures note { (result.table_id ≡ seat.old.table_id) × (result.me ≡ (whole_note None seat.old.me.0, [])) }
+        ensures note { (result.table_id ≡ seat.old.table_id) ×
+            (result.me ≡ (whole_note None seat.old.me.0, [])) }
     {
         self.words.shared.split_seat::<Noting>(seat)
     }
@@ -63,18 +67,23 @@ impl<L: Law> Table<L> {
         requires entry { A.entry ≡ Some entry.now }
         requires table { pass.old.table_id ≡ self.now.words.shared.table_id }
         requires pass { pass.old.me.0.past.kind ≡ Pass (L.who entry.now) }
-        requires own { named L.who (L.who entry.now) pass.old.me.0.past.seen ≡ pass.old.me.0.past.mine }
-        ensures pass { (pass.new.table_id ≡ pass.old.table_id) × (pass.new.me ≡ (whole_asking A.entry pass.old.me.0, pass.old.me.1)) }
-        ensures note { (result.table_id ≡ pass.old.table_id) × (result.me ≡ (whole_note A.entry pass.old.me.0, [])) }
+        requires own { named L.who (L.who entry.now) pass.old.me.0.past.seen ≡
+            pass.old.me.0.past.mine }
+        ensures pass { (pass.new.table_id ≡ pass.old.table_id) ×
+            (pass.new.me ≡ (whole_asking A.entry pass.old.me.0, pass.old.me.1)) }
+        ensures note { (result.table_id ≡ pass.old.table_id) ×
+            (result.me ≡ (whole_note A.entry pass.old.me.0, [])) }
     {
         let _ = entry;
         self.words.shared.split_seat::<Asking<A>>(pass)
     }
 
     pub(crate) fn join(&self, seat: &mut Token<L>, note: Token<L>)
-        requires tables { (seat.old.table_id ≡ self.now.words.shared.table_id) × (note.table_id ≡ self.now.words.shared.table_id) × (note.me.1 ≡ []) }
+        requires tables { (seat.old.table_id ≡ self.now.words.shared.table_id) ×
+            (note.table_id ≡ self.now.words.shared.table_id) × (note.me.1 ≡ []) }
         requires pair { CanJoin seat.old.me.0 note.me.0 }
-        ensures view { (seat.new.table_id ≡ seat.old.table_id) × (seat.new.me ≡ (joined seat.old.me.0 note.me.0, seat.old.me.1)) }
+        ensures view { (seat.new.table_id ≡ seat.old.table_id) ×
+            (seat.new.me ≡ (joined seat.old.me.0 note.me.0, seat.old.me.1)) }
         ensures told { IsTold L.who L.legal (joined seat.old.me.0 note.me.0) }
     {
         self.words.shared.join_seat::<Joining>(seat, note);
@@ -85,7 +94,9 @@ impl<L: Law> Table<L> {
         requires aim { A.shape ≡ self.now.shape }
         requires table { seat.old.table_id ≡ self.now.words.shared.table_id }
         ensures same { seat.new.table_id ≡ seat.old.table_id }
-        ensures told { Loads L.who L.legal seat.old.me.0 result seat.new.me.0 × Moment L.who L.legal L.right A.shape seat.old.me.0 result × (seat.new.me.1 ≡ seat.old.me.1) }
+        ensures told { Loads L.who L.legal seat.old.me.0 result seat.new.me.0 ×
+            Moment L.who L.legal L.right A.shape seat.old.me.0 result ×
+            (seat.new.me.1 ≡ seat.old.me.1) }
     {
         self.words.shared.load::<Loading<L, A>>(seat, 0)
     }
@@ -96,7 +107,8 @@ impl<L: Law> Table<L> {
         requires permit { desk.old.me.0.past.permit ≡ Some entry.now }
         requires legal { L.legal (desk.old.me.0.past.seen ++ entry.now ∷ []) }
         ensures same { desk.new.table_id ≡ desk.old.table_id }
-        ensures view { Accepts desk.old.me.0 result desk.new.me.0 × (desk.new.me.1 ≡ desk.old.me.1) }
+        ensures view { Accepts desk.old.me.0 result desk.new.me.0 ×
+            (desk.new.me.1 ≡ desk.old.me.1) }
     {
         let _ = entry;
         self.words.shared.fetch_add::<Accepting<L>>(desk, 0, 1)
@@ -109,7 +121,8 @@ impl<L: Law> Table<L> {
         requires pass { is_pass seat.old.me.0.past.kind ≡ true }
         requires outside { seat.old.me.0.stay.place ≡ Outside }
         ensures same { seat.new.table_id ≡ seat.old.table_id }
-        ensures view { Enters A.bank A.version seat.old.me.0 result seat.new.me.0 × (seat.new.me.1 ≡ seat.old.me.1) }
+        ensures view { Enters A.bank A.version seat.old.me.0 result seat.new.me.0 ×
+            (seat.new.me.1 ≡ seat.old.me.1) }
     {
         let _ = version;
         self.words
@@ -135,11 +148,14 @@ impl<L: Law> Table<L> {
         requires table { desk.old.table_id ≡ self.now.words.shared.table_id }
         requires bank { bank < self.now.shape.banks }
         requires desk { is_desk desk.old.me.0.past.kind ≡ true }
-        requires stand { (a : Stand) × (get_elem? desk.old.me.0.stay.stands bank ≡ some a) × (a.version ≡ old) × (a.building ≡ 0) }
-        requires none_built { (j : ℕ) (c : Stand) → get_elem? desk.old.me.0.stay.stands j ≡ some c → c.building ≡ 0 }
+        requires stand { (a : Stand) × (get_elem? desk.old.me.0.stay.stands bank ≡ some a) ×
+            (a.version ≡ old) × (a.building ≡ 0) }
+        requires none_built { (j : ℕ) (c : Stand) → get_elem? desk.old.me.0.stay.stands j ≡ some c →
+            c.building ≡ 0 }
         requires new { (old < new) × (new ≤ length desk.old.me.0.past.seen) }
         ensures same { desk.new.table_id ≡ desk.old.table_id }
-        ensures view { Claims A.bank A.old A.version desk.old.me.0 result desk.new.me.0 × (desk.new.me.1 ≡ desk.old.me.1) }
+        ensures view { Claims A.bank A.old A.version desk.old.me.0 result desk.new.me.0 ×
+            (desk.new.me.1 ≡ desk.old.me.1) }
     {
         self.words
             .shared
@@ -157,7 +173,8 @@ impl<L: Law> Table<L> {
         requires bank { bank < self.now.shape.banks }
         requires place { place < size_of self.now.shape }
         requires desk { is_desk desk.old.me.0.past.kind ≡ true }
-        requires built { (a : Stand) × (get_elem? desk.old.me.0.stay.stands bank ≡ some a) × (a.building ≡ 1) × (a.zeroed ≡ place) }
+        requires built { (a : Stand) × (get_elem? desk.old.me.0.stay.stands bank ≡ some a) ×
+            (a.building ≡ 1) × (a.zeroed ≡ place) }
         ensures same { desk.new.table_id ≡ desk.old.table_id }
         ensures view { Zeroed A.bank desk.old.me.0 desk.new.me.0 × (desk.new.me.1 ≡ desk.old.me.1) }
     {
@@ -171,9 +188,11 @@ impl<L: Law> Table<L> {
         requires table { desk.old.table_id ≡ self.now.words.shared.table_id }
         requires bank { bank < self.now.shape.banks }
         requires desk { is_desk desk.old.me.0.past.kind ≡ true }
-        requires built { (a : Stand) × (get_elem? desk.old.me.0.stay.stands bank ≡ some a) × (a.building ≡ 1) × (size_of self.now.shape ≤ a.zeroed) }
+        requires built { (a : Stand) × (get_elem? desk.old.me.0.stay.stands bank ≡ some a) ×
+            (a.building ≡ 1) × (size_of self.now.shape ≤ a.zeroed) }
         ensures same { desk.new.table_id ≡ desk.old.table_id }
-        ensures view { Published A.bank desk.old.me.0 desk.new.me.0 × (desk.new.me.1 ≡ desk.old.me.1) }
+        ensures view { Published A.bank desk.old.me.0 desk.new.me.0 ×
+            (desk.new.me.1 ≡ desk.old.me.1) }
     {
         self.words
             .shared
@@ -188,7 +207,9 @@ impl<L: Law> Table<L> {
         requires inside { seat.old.me.0.stay.place ≡ Inside A.bank A.version }
         requires version { A.version ≤ length seat.old.me.0.past.seen }
         ensures same { seat.new.table_id ≡ seat.old.table_id }
-        ensures view { (Looked A.bank A.version A.place seat.old.me.0 result seat.new.me.0 × Shown L.right A.shape A.bank A.version A.place seat.old.me.0 result) × (seat.new.me.1 ≡ seat.old.me.1) }
+        ensures view { (Looked A.bank A.version A.place seat.old.me.0 result seat.new.me.0 ×
+            Shown L.right A.shape A.bank A.version A.place seat.old.me.0 result) ×
+            (seat.new.me.1 ≡ seat.old.me.1) }
     {
         self.words
             .shared
@@ -196,14 +217,17 @@ impl<L: Law> Table<L> {
     }
 
     pub(crate) fn write<A: Aim>(&self, seat: &mut Token<L>, bank: u32, place: u32, word: u64) -> u64
-        requires aim { (A.bank ≡ bank) × (A.place ≡ place) × (A.word ≡ word) × (A.shape ≡ self.now.shape) }
+        requires aim { (A.bank ≡ bank) × (A.place ≡ place) × (A.word ≡ word) ×
+            (A.shape ≡ self.now.shape) }
         requires table { seat.old.table_id ≡ self.now.words.shared.table_id }
         requires bank { bank < self.now.shape.banks }
         requires inside { seat.old.me.0.stay.place ≡ Inside A.bank A.version }
         requires version { A.version ≤ length seat.old.me.0.past.seen }
         requires word { MayWrite L.right self.now.shape A.bank A.version place word seat.old.me.0 }
         ensures same { seat.new.table_id ≡ seat.old.table_id }
-        ensures view { (Written A.bank A.version A.place A.word seat.old.me.0 result seat.new.me.0 × Shown L.right A.shape A.bank A.version A.place seat.old.me.0 result) × (seat.new.me.1 ≡ seat.old.me.1) }
+        ensures view { (Written A.bank A.version A.place A.word seat.old.me.0 result seat.new.me.0 ×
+            Shown L.right A.shape A.bank A.version A.place seat.old.me.0 result) ×
+            (seat.new.me.1 ≡ seat.old.me.1) }
     {
         self.words
             .shared
@@ -213,7 +237,8 @@ impl<L: Law> Table<L> {
     // Where the place stands among the words.
     fn index(&self, bank: u32, place: u32) -> usize
         requires { (bank < self.now.shape.banks) × (place < size_of self.now.shape) }
-        ensures index { result ≡ 1 + (self.now.shape.banks + bank * size_of self.now.shape + place) }
+        ensures index { result ≡ 1 + (self.now.shape.banks + bank * size_of self.now.shape +
+            place) }
         ensures within { result < self.now.words.shared.table_id.words }
     {
         1 + (self.shape.banks as usize

@@ -9,7 +9,8 @@ use crate::law::Law;
 use crate::shared::{Seat, Shared};
 use crate::words::{node_word, place};
 
-/// Two passes ask for an entry each. Their notes bring the permits to the desk, one after the other, and it accepts both entries.
+/// Two passes ask for an entry each. Their notes bring the permits to the desk, one after the
+/// other, and it accepts both entries.
 pub(crate) fn accept_two<L: Law>(
     shared: &Shared<L>,
     desk: &mut Seat<L>,
@@ -18,13 +19,19 @@ pub(crate) fn accept_two<L: Law>(
     two: &mut Seat<L>,
     second: &L::Entry,
 ) -> u64
-    requires tables { (desk.old.table ≡ shared.now) × (one.old.table ≡ shared.now) × (two.old.table ≡ shared.now) }
+    requires tables { (desk.old.table ≡ shared.now) × (one.old.table ≡ shared.now) ×
+        (two.old.table ≡ shared.now) }
     requires desk { (desk.old.view.past.kind ≡ Desk) × (desk.old.view.past.permit ≡ None) }
-    requires one { (one.old.view.past.kind ≡ Pass (L.who first.now)) × (named L.who (L.who first.now) one.old.view.past.seen ≡ one.old.view.past.mine) }
-    requires two { (two.old.view.past.kind ≡ Pass (L.who second.now)) × (named L.who (L.who second.now) two.old.view.past.seen ≡ two.old.view.past.mine) }
-    requires legal { L.legal (desk.old.view.past.seen ++ first.now ∷ []) × L.legal ((desk.old.view.past.seen ++ first.now ∷ []) ++ second.now ∷ []) }
-    ensures history { desk.new.view.past.seen ≡ (desk.old.view.past.seen ++ first.now ∷ []) ++ second.now ∷ [] }
-    ensures desk { (desk.new.table ≡ shared.now) × (desk.new.view.past.kind ≡ Desk) × (desk.new.view.past.permit ≡ None) }
+    requires one { (one.old.view.past.kind ≡ Pass (L.who first.now)) ×
+        (named L.who (L.who first.now) one.old.view.past.seen ≡ one.old.view.past.mine) }
+    requires two { (two.old.view.past.kind ≡ Pass (L.who second.now)) ×
+        (named L.who (L.who second.now) two.old.view.past.seen ≡ two.old.view.past.mine) }
+    requires legal { L.legal (desk.old.view.past.seen ++ first.now ∷ []) ×
+        L.legal ((desk.old.view.past.seen ++ first.now ∷ []) ++ second.now ∷ []) }
+    ensures history { desk.new.view.past.seen ≡ (desk.old.view.past.seen ++ first.now ∷ []) ++
+        second.now ∷ [] }
+    ensures desk { (desk.new.table ≡ shared.now) × (desk.new.view.past.kind ≡ Desk) ×
+        (desk.new.view.past.permit ≡ None) }
     ensures one { (one.new.table ≡ shared.now) × (one.new.view.past.kind ≡ one.old.view.past.kind) }
     ensures two { (two.new.table ≡ shared.now) × (two.new.view.past.kind ≡ two.old.view.past.kind) }
     ensures version { result ≡ length (desk.old.view.past.seen ++ first.now ∷ []) + 1 }
@@ -37,7 +44,8 @@ pub(crate) fn accept_two<L: Law>(
     shared.change(desk, second)
 }
 
-/// A note of the desk shows a pass all that the desk has seen. It answers the version that the pass then finds.
+/// A note of the desk shows a pass all that the desk has seen. It answers the version that the pass
+/// then finds.
 pub(crate) fn show<L: Law>(shared: &Shared<L>, desk: &mut Seat<L>, pass: &mut Seat<L>) -> u64
     requires tables { (desk.old.table ≡ shared.now) × (pass.old.table ≡ shared.now) }
     requires desk { desk.old.view.past.kind ≡ Desk }
@@ -51,7 +59,8 @@ pub(crate) fn show<L: Law>(shared: &Shared<L>, desk: &mut Seat<L>, pass: &mut Se
     shared.load(pass)
 }
 
-/// Writes the set of one element to the first place of its path, if that is empty, and answers the word found there.
+/// Writes the set of one element to the first place of its path, if that is empty, and answers the
+/// word found there.
 pub(crate) fn write_single<L: Law>(shared: &Shared<L>, seat: &mut Seat<L>, element: u32) -> u64
     requires table { seat.old.table ≡ shared.now }
     requires inside { is_inside seat.old.view.stay.place ≡ true }

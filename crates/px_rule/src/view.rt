@@ -31,7 +31,8 @@ pub struct Past<E> {
     pub asker_last: u64,
 }
 
-/// Where a pass is: in no bank, inside a bank at a version, or counted in a bank that it has to leave.
+/// Where a pass is: in no bank, inside a bank at a version, or counted in a bank that it has to
+/// leave.
 pub enum Place {
     Outside,
     Inside(u64, u64),

@@ -58,12 +58,14 @@ pub fn place(shape: &Shape, word: u64, i: u32) -> u32
     at as u32
 }
 
-/// The place at the next turn of the path of a word, from the place at a turn: one further, and after the last place of its kind the first.
+/// The place at the next turn of the path of a word, from the place at a turn: one further, and
+/// after the last place of its kind the first.
 pub fn next_place(shape: &Shape, word: u64, place: u32) -> u32
     requires shape { IsShape shape.now }
     requires place { place < size_of shape.now }
     requires path { (i : ℕ) × (place ≡ path_of shape.now (key_of word) i) }
-    ensures next { (i : ℕ) → place ≡ path_of shape.now (key_of word) i → result ≡ path_of shape.now (key_of word) (i + 1) }
+    ensures next { (i : ℕ) → place ≡ path_of shape.now (key_of word) i →
+        result ≡ path_of shape.now (key_of word) (i + 1) }
     ensures within { result < size_of shape.now }
 {
     let places = shape.bank_places();
@@ -80,7 +82,8 @@ pub fn next_place(shape: &Shape, word: u64, place: u32) -> u32
     next
 }
 
-// Which of the node places behind the first a path reaches at a number. Their count is one less than a power of two, so the remainder is taken by adding the number's parts.
+// Which of the node places behind the first a path reaches at a number. Their count is one less
+// than a power of two, so the remainder is taken by adding the number's parts.
 fn node_turn(shape: &Shape, number: u64) -> u64
     requires shape { IsShape shape.now }
     ensures remainder { result ≡ number % (nodes_of shape.now - 1) }
@@ -104,7 +107,8 @@ fn parts_added(number: u64, bits: u32) -> u64
     (number & u64::from(two_to(bits) - 1)) + (number >> bits)
 }
 
-// Which of the step places a path reaches at a number: their count is a power of two, so a mask takes the remainder.
+// Which of the step places a path reaches at a number: their count is a power of two, so a mask
+// takes the remainder.
 fn step_turn(shape: &Shape, number: u64) -> u64
     requires shape { IsShape shape.now }
     ensures remainder { result ≡ number % steps_of shape.now }

@@ -23,30 +23,38 @@ use crate::memo::Memo;
 pub fn events_follow_content()
     ensures gathered { (automata : Automata) (root : Root) →
         (after_events automata.states (ground automata) (events_of root)).innermost.gathered
-        ≡ gathered_of (machine_of automata.states) (first_set automata.firsts) [] (root_content root) }
-    ensures closed { (automata : Automata) (root : Root) → (after_events automata.states (ground automata) (events_of root)).outer ≡ [] }
-    ensures steps { (automata : Automata) (root : Root) → events_steps automata.states (ground automata) (events_of root) ≡ run_of automata root }
+        ≡ gathered_of (machine_of automata.states) (first_set automata.firsts) []
+        (root_content root) }
+    ensures closed { (automata : Automata) (root : Root) →
+        (after_events automata.states (ground automata) (events_of root)).outer ≡ [] }
+    ensures steps { (automata : Automata) (root : Root) →
+        events_steps automata.states (ground automata) (events_of root) ≡ run_of automata root }
 {}
 
 /// Keeping only the states that are needed changes no accepted id, whatever the labels and the
 /// values of texts are.
 pub fn pruning_changes_nothing()
-    ensures same { (machine : Machine) (firsts : List First) (root : Content) → accepted machine firsts root ≡ accepted_of_all machine firsts root }
+    ensures same { (machine : Machine) (firsts : List First) (root : Content) →
+        accepted machine firsts root ≡ accepted_of_all machine firsts root }
 {}
 
 /// The machine accepts exactly the filters that hold of the document, with only the needed states
 /// kept and with all.
 pub fn accepted_are_matches()
     ensures live { (live : List Subscription) → HaveSteps live → (root : Root) →
-        accepted (machine_of (automata live).states) (automata live).firsts (root_content root) ≡ map (λ s. s.id) (filter (λ s. holds s.filter root) live) }
+        accepted (machine_of (automata live).states) (automata live).firsts (root_content root) ≡
+        map (λ s. s.id) (filter (λ s. holds s.filter root) live) }
     ensures behind { (history : List Change) → HaveSteps (live history) → (root : Root) →
-        accepted (machine_of (program history).states) (program history).firsts (root_content root) ≡ matches history root }
+        accepted (machine_of (program history).states) (program history).firsts (root_content root)
+        ≡ matches history root }
     ensures unpruned { (history : List Change) → HaveSteps (live history) → (root : Root) →
-        accepted_of_all (machine_of (program history).states) (program history).firsts (root_content root) ≡ matches history root }
+        accepted_of_all (machine_of (program history).states) (program history).firsts
+        (root_content root) ≡ matches history root }
 {}
 
 /// When it has taken all events of a document, a runner has made the steps of the run over it.
 pub fn steps_are_counted<M: Memo>()
     ensures count { (memo : M) (runner : Runner) (root : Root) →
-        HasRun M.automata M.stands_for memo runner (events_of root) → steps_made runner ≡ length (run_of (M.automata memo) root) }
+        HasRun M.automata M.stands_for memo runner (events_of root) →
+        steps_made runner ≡ length (run_of (M.automata memo) root) }
 {}

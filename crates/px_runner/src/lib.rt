@@ -25,13 +25,13 @@
 //! first state is raised to the document root. What the root has gathered says which filters hold,
 //! and [`Runner::finish`] answers their ids.
 //!
-//! **Who makes the steps.** A [`Memo`]: it holds sets of states as values of its own ([`Held`]), and
-//! each of its answers stands for the set that the step's definition gives. That is its promise, and
-//! whoever implements the trait proves it, so a runner is right over every memo. The memo may
-//! remember answers, share them with others, and tell in its contract which steps it made. Here
-//! stands [`PrivateMemo`], which keeps each different set and each step once, for one runner after
-//! another. Its memory is not bounded: whoever runs documents without end drops it in between, or
-//! runs on the machine of px_machine, which forgets by itself.
+//! **Who makes the steps.** A [`Memo`]: it holds sets of states as values of its own ([`Held`]),
+//! and each of its answers stands for the set that the step's definition gives. That is its
+//! promise, and whoever implements the trait proves it, so a runner is right over every memo. The
+//! memo may remember answers, share them with others, and tell in its contract which steps it made.
+//! Here stands [`PrivateMemo`], which keeps each different set and each step once, for one runner
+//! after another. Its memory is not bounded: whoever runs documents without end drops it in
+//! between, or runs on the machine of px_machine, which forgets by itself.
 //!
 //! The laws tie the whole to XPath: the ids are those of the filters that match
 //! ([`accepted_are_matches`]), leaving out what is not needed changes no answer

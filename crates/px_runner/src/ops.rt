@@ -19,7 +19,8 @@ use std::alloc::AllocError;
 pub fn value_text<M: Memo>(memo: &mut M, class: u32) -> Result<Held, AllocError>
     requires { IsTextClass (M.automata memo.old).states class }
     ensures ok { IfOk result (λ held. Gives M.automata M.stands_for M.tells memo.old memo.new held
-        (step (M.automata memo.old).states TextClass (index 0) (index class) ∷ []) (functions.value_text (M.automata memo.old).states class)) }
+        (step (M.automata memo.old).states TextClass (index 0) (index class) ∷ [])
+        (functions.value_text (M.automata memo.old).states class)) }
     ensures err { OnErr result (Keeps M.automata M.stands_for memo.old memo.new) }
 {
     memo.step(Op::TextClass, &Held::Plain(0), &Held::Plain(class))
@@ -29,7 +30,8 @@ pub fn value_text<M: Memo>(memo: &mut M, class: u32) -> Result<Held, AllocError>
 pub fn value_number<M: Memo>(memo: &mut M, class: u32) -> Result<Held, AllocError>
     requires { IsNumberClass (M.automata memo.old).states class }
     ensures ok { IfOk result (λ held. Gives M.automata M.stands_for M.tells memo.old memo.new held
-        (step (M.automata memo.old).states NumberClass (index 0) (index class) ∷ []) (functions.value_number (M.automata memo.old).states class)) }
+        (step (M.automata memo.old).states NumberClass (index 0) (index class) ∷ [])
+        (functions.value_number (M.automata memo.old).states class)) }
     ensures err { OnErr result (Keeps M.automata M.stands_for memo.old memo.new) }
 {
     memo.step(Op::NumberClass, &Held::Plain(0), &Held::Plain(class))
@@ -39,9 +41,11 @@ pub fn value_number<M: Memo>(memo: &mut M, class: u32) -> Result<Held, AllocErro
 pub fn pop<M: Memo>(memo: &mut M, set: &Held, label: u32) -> Result<Held, AllocError>
     requires set { (s : List ℕ) × Holds M.automata M.stands_for memo.old set.now s }
     requires label { IsLabel (M.automata memo.old).states label }
-    ensures ok { IfOk result (λ held. (s : List ℕ) → Holds M.automata M.stands_for memo.old set.now s →
+    ensures ok { IfOk result (λ held. (s : List ℕ) →
+        Holds M.automata M.stands_for memo.old set.now s →
         Gives M.automata M.stands_for M.tells memo.old memo.new held
-        (step (M.automata memo.old).states Pop (set_of s) (index label) ∷ []) (functions.pop (M.automata memo.old).states s label)) }
+        (step (M.automata memo.old).states Pop (set_of s) (index label) ∷ [])
+        (functions.pop (M.automata memo.old).states s label)) }
     ensures err { OnErr result (Keeps M.automata M.stands_for memo.old memo.new) }
 {
     memo.step(Op::Pop, set, &Held::Plain(label))
@@ -51,9 +55,11 @@ pub fn pop<M: Memo>(memo: &mut M, set: &Held, label: u32) -> Result<Held, AllocE
 pub fn push<M: Memo>(memo: &mut M, needed: &Held, label: u32) -> Result<Held, AllocError>
     requires set { (s : List ℕ) × Holds M.automata M.stands_for memo.old needed.now s }
     requires label { IsLabel (M.automata memo.old).states label }
-    ensures ok { IfOk result (λ held. (s : List ℕ) → Holds M.automata M.stands_for memo.old needed.now s →
+    ensures ok { IfOk result (λ held. (s : List ℕ) →
+        Holds M.automata M.stands_for memo.old needed.now s →
         Gives M.automata M.stands_for M.tells memo.old memo.new held
-        (step (M.automata memo.old).states Push (set_of s) (index label) ∷ []) (functions.push (M.automata memo.old).states s label)) }
+        (step (M.automata memo.old).states Push (set_of s) (index label) ∷ [])
+        (functions.push (M.automata memo.old).states s label)) }
     ensures err { OnErr result (Keeps M.automata M.stands_for memo.old memo.new) }
 {
     memo.step(Op::Push, needed, &Held::Plain(label))
@@ -61,8 +67,11 @@ pub fn push<M: Memo>(memo: &mut M, needed: &Held, label: u32) -> Result<Held, Al
 
 /// The union of two sets.
 pub fn add<M: Memo>(memo: &mut M, a: &Held, b: &Held) -> Result<Held, AllocError>
-    requires { (x : List ℕ) × (y : List ℕ) × Holds M.automata M.stands_for memo.old a.now x × Holds M.automata M.stands_for memo.old b.now y }
-    ensures ok { IfOk result (λ held. (x y : List ℕ) → Holds M.automata M.stands_for memo.old a.now x → Holds M.automata M.stands_for memo.old b.now y →
+    requires { (x : List ℕ) × (y : List ℕ) × Holds M.automata M.stands_for memo.old a.now x ×
+        Holds M.automata M.stands_for memo.old b.now y }
+    ensures ok { IfOk result (λ held. (x y : List ℕ) →
+        Holds M.automata M.stands_for memo.old a.now x →
+        Holds M.automata M.stands_for memo.old b.now y →
         Gives M.automata M.stands_for M.tells memo.old memo.new held
         (step (M.automata memo.old).states Add (set_of x) (set_of y) ∷ []) (sets.add x y)) }
     ensures err { OnErr result (Keeps M.automata M.stands_for memo.old memo.new) }
@@ -72,8 +81,11 @@ pub fn add<M: Memo>(memo: &mut M, a: &Held, b: &Held) -> Result<Held, AllocError
 
 /// The intersection of two sets.
 pub fn mask<M: Memo>(memo: &mut M, a: &Held, b: &Held) -> Result<Held, AllocError>
-    requires { (x : List ℕ) × (y : List ℕ) × Holds M.automata M.stands_for memo.old a.now x × Holds M.automata M.stands_for memo.old b.now y }
-    ensures ok { IfOk result (λ held. (x y : List ℕ) → Holds M.automata M.stands_for memo.old a.now x → Holds M.automata M.stands_for memo.old b.now y →
+    requires { (x : List ℕ) × (y : List ℕ) × Holds M.automata M.stands_for memo.old a.now x ×
+        Holds M.automata M.stands_for memo.old b.now y }
+    ensures ok { IfOk result (λ held. (x y : List ℕ) →
+        Holds M.automata M.stands_for memo.old a.now x →
+        Holds M.automata M.stands_for memo.old b.now y →
         Gives M.automata M.stands_for M.tells memo.old memo.new held
         (step (M.automata memo.old).states Mask (set_of x) (set_of y) ∷ []) (sets.mask x y)) }
     ensures err { OnErr result (Keeps M.automata M.stands_for memo.old memo.new) }

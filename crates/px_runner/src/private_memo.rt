@@ -41,7 +41,8 @@ impl Model for PrivateMemo {
 
     ghost view = { λ memo. record { automata = arc_value memo.compiled; sets = memo.sets } };
 
-    ghost invariant = { λ memo. AreFirsts (arc_value memo.compiled) memo.sets memo.firsts × AreFacts (arc_value memo.compiled).states memo.sets memo.facts };
+    ghost invariant = { λ memo. AreFirsts (arc_value memo.compiled) memo.sets memo.firsts ×
+        AreFacts (arc_value memo.compiled).states memo.sets memo.facts };
 }
 
 impl Memo for PrivateMemo {
@@ -99,7 +100,8 @@ impl PrivateMemo {
 
     // A value for the set of first states, of which it keeps the number.
     fn learn_firsts(&mut self) -> Result<Held, AllocError>
-        ensures stands { IfOk result (λ held. StandsFor self.new.sets held (first_set self.old.automata.firsts)) }
+        ensures stands { IfOk result (λ held. StandsFor self.new.sets held
+            (first_set self.old.automata.firsts)) }
         ensures same { self.new.automata ≡ self.old.automata }
         ensures grows { Grows self.old.sets self.new.sets }
     {
@@ -111,7 +113,8 @@ impl PrivateMemo {
 
     // The number of the answer of a step, where the memo knows it.
     fn known(&self, op: Op, a: &Held, b: &Held) -> Option<u32>
-        ensures known { IfSome result (λ n. (x y : Operand) → AreOperands self.now.automata.states (StandsFor self.now.sets) op a.now b.now x y →
+        ensures known { IfSome result (λ n. (x y : Operand) →
+            AreOperands self.now.automata.states (StandsFor self.now.sets) op a.now b.now x y →
             slice_get self.now.sets n ≡ Some (answer_of self.now.automata.states op x y)) }
     {
         let a = number_of(a)?;
@@ -121,8 +124,10 @@ impl PrivateMemo {
 
     // Computes a step, and keeps its answer.
     fn learn(&mut self, op: Op, a: &Held, b: &Held) -> Result<Held, AllocError>
-        requires operands { (x : Operand) × (y : Operand) × AreOperands self.old.automata.states (StandsFor self.old.sets) op a.now b.now x y }
-        ensures stands { IfOk result (λ held. (x y : Operand) → AreOperands self.old.automata.states (StandsFor self.old.sets) op a.now b.now x y →
+        requires operands { (x : Operand) × (y : Operand) ×
+            AreOperands self.old.automata.states (StandsFor self.old.sets) op a.now b.now x y }
+        ensures stands { IfOk result (λ held. (x y : Operand) →
+            AreOperands self.old.automata.states (StandsFor self.old.sets) op a.now b.now x y →
             StandsFor self.new.sets held (answer_of self.old.automata.states op x y)) }
         ensures same { self.new.automata ≡ self.old.automata }
         ensures grows { Grows self.old.sets self.new.sets }
@@ -135,7 +140,8 @@ impl PrivateMemo {
 
     // Keeps a step with its answer, where all have numbers.
     fn remember(&mut self, op: Op, a: &Held, b: &Held, answer: &Held) -> Result<(), AllocError>
-        requires fact { (x : Operand) × (y : Operand) × AreOperands self.old.automata.states (StandsFor self.old.sets) op a.now b.now x y
+        requires fact { (x : Operand) × (y : Operand) ×
+            AreOperands self.old.automata.states (StandsFor self.old.sets) op a.now b.now x y
             × StandsFor self.old.sets answer.now (answer_of self.old.automata.states op x y) }
         ensures same { self.new ≡ self.old }
     {
@@ -156,8 +162,10 @@ impl PrivateMemo {
 
     // The answer of a step.
     fn computed(&self, op: Op, a: &Held, b: &Held) -> Result<Set, AllocError>
-        requires operands { (x : Operand) × (y : Operand) × AreOperands self.now.automata.states (StandsFor self.now.sets) op a.now b.now x y }
-        ensures answer { IfOk result (λ set. (x y : Operand) → AreOperands self.now.automata.states (StandsFor self.now.sets) op a.now b.now x y →
+        requires operands { (x : Operand) × (y : Operand) ×
+            AreOperands self.now.automata.states (StandsFor self.now.sets) op a.now b.now x y }
+        ensures answer { IfOk result (λ set. (x y : Operand) →
+            AreOperands self.now.automata.states (StandsFor self.now.sets) op a.now b.now x y →
             set ≡ answer_of self.now.automata.states op x y) }
     {
         match op {

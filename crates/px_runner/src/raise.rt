@@ -22,7 +22,8 @@ pub fn values<M: Memo>(memo: &mut M, text: u32, number: u32) -> Result<Held, All
     requires text { IsTextClass (M.automata memo.old).states text }
     requires number { IsNumberClass (M.automata memo.old).states number }
     ensures ok { IfOk result (λ held. Gives M.automata M.stands_for M.tells memo.old memo.new held
-        (class_steps (M.automata memo.old).states text number) (class_values (M.automata memo.old).states text number)) }
+        (class_steps (M.automata memo.old).states text number)
+        (class_values (M.automata memo.old).states text number)) }
     ensures err { OnErr result (Keeps M.automata M.stands_for memo.old memo.new) }
 {
     let text = value_text(memo, text)?;
@@ -33,7 +34,8 @@ pub fn values<M: Memo>(memo: &mut M, text: u32, number: u32) -> Result<Held, All
 /// The Value states that are true of a text.
 pub fn text_values<M: Memo>(memo: &mut M, text: &[u8]) -> Result<Held, AllocError>
     ensures ok { IfOk result (λ held. Gives M.automata M.stands_for M.tells memo.old memo.new held
-        (value_steps (M.automata memo.old).states text.now) (values_in (M.automata memo.old).states text.now)) }
+        (value_steps (M.automata memo.old).states text.now)
+        (values_in (M.automata memo.old).states text.now)) }
     ensures err { OnErr result (Keeps M.automata M.stands_for memo.old memo.new) }
 {
     let literal = memo.program().text_class(text);
@@ -50,11 +52,17 @@ pub fn raise<M: Memo>(
     set: &Held,
     label: u32,
 ) -> Result<Held, AllocError>
-    requires sets { (n a s : List ℕ) × Holds M.automata M.stands_for memo.old needed.now n × Holds M.automata M.stands_for memo.old gathered.now a × Holds M.automata M.stands_for memo.old set.now s }
+    requires sets { (n a s : List ℕ) × Holds M.automata M.stands_for memo.old needed.now n ×
+        Holds M.automata M.stands_for memo.old gathered.now a ×
+        Holds M.automata M.stands_for memo.old set.now s }
     requires label { IsLabel (M.automata memo.old).states label }
     ensures ok { IfOk result (λ held. (n a s : List ℕ) →
-        Holds M.automata M.stands_for memo.old needed.now n → Holds M.automata M.stands_for memo.old gathered.now a → Holds M.automata M.stands_for memo.old set.now s →
-        Gives M.automata M.stands_for M.tells memo.old memo.new held (raise_steps (M.automata memo.old).states n a s label) (raised (M.automata memo.old).states n a s label)) }
+        Holds M.automata M.stands_for memo.old needed.now n →
+        Holds M.automata M.stands_for memo.old gathered.now a →
+        Holds M.automata M.stands_for memo.old set.now s →
+        Gives M.automata M.stands_for M.tells memo.old memo.new held
+        (raise_steps (M.automata memo.old).states n a s label)
+        (raised (M.automata memo.old).states n a s label)) }
     ensures err { OnErr result (Keeps M.automata M.stands_for memo.old memo.new) }
 {
     let popped = pop(memo, set, label)?;
@@ -73,9 +81,12 @@ pub fn give<M: Memo>(
     requires set { (s : List ℕ) × Holds M.automata M.stands_for memo.old set.now s }
     requires label { IsLabel (M.automata memo.old).states label }
     ensures ok { OnOk result ((o : Open) (s text : List ℕ) →
-        IsOpen M.automata M.stands_for memo.old frame.old o → Holds M.automata M.stands_for memo.old set.now s →
-        IsOpen M.automata M.stands_for memo.new frame.new (with_child (M.automata memo.old).states o s label text)
-        × Advances M.automata M.stands_for M.tells memo.old memo.new (raise_steps (M.automata memo.old).states o.needed o.gathered s label) []) }
+        IsOpen M.automata M.stands_for memo.old frame.old o →
+        Holds M.automata M.stands_for memo.old set.now s →
+        IsOpen M.automata M.stands_for memo.new frame.new
+        (with_child (M.automata memo.old).states o s label text)
+        × Advances M.automata M.stands_for M.tells memo.old memo.new
+        (raise_steps (M.automata memo.old).states o.needed o.gathered s label) []) }
     ensures begins { OnOk result (frame.new.begins ≡ frame.old.begins) }
     ensures err { OnErr result (Keeps M.automata M.stands_for memo.old memo.new) }
 {
@@ -94,9 +105,13 @@ pub fn close<M: Memo>(
     requires child { (c : Open) × IsOpen M.automata M.stands_for memo.old child.now c }
     requires parent { (p : Open) × IsOpen M.automata M.stands_for memo.old parent.old p }
     ensures ok { OnOk result ((c p : Open) (said : List ℕ) →
-        IsOpen M.automata M.stands_for memo.old child.now c → IsOpen M.automata M.stands_for memo.old parent.old p → c.text ≡ text.now →
-        IsOpen M.automata M.stands_for memo.new parent.new (with_child (M.automata memo.old).states p (whole_set (M.automata memo.old).states c) c.label said)
-        × Advances M.automata M.stands_for M.tells memo.old memo.new (end_steps (M.automata memo.old).states c (p ∷ [])) []) }
+        IsOpen M.automata M.stands_for memo.old child.now c →
+        IsOpen M.automata M.stands_for memo.old parent.old p → c.text ≡ text.now →
+        IsOpen M.automata M.stands_for memo.new parent.new
+        (with_child (M.automata memo.old).states p (whole_set (M.automata memo.old).states c)
+        c.label said)
+        × Advances M.automata M.stands_for M.tells memo.old memo.new
+        (end_steps (M.automata memo.old).states c (p ∷ [])) []) }
     ensures begins { OnOk result (parent.new.begins ≡ parent.old.begins) }
     ensures err { OnErr result (Keeps M.automata M.stands_for memo.old memo.new) }
 {

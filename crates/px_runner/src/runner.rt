@@ -48,7 +48,8 @@ impl Runner {
     /// A runner before the first event of a document.
     pub fn new<M: Memo>(alloc: Global, memo: &mut M) -> Result<Runner, AllocError>
         ensures ok { IfOk result (λ runner. HasRun M.automata M.stands_for memo.new runner []) }
-        ensures held { IfOk result (λ runner. Advances M.automata M.stands_for M.tells memo.old memo.new [] (first_set (M.automata memo.old).firsts ∷ [] ∷ [])) }
+        ensures held { IfOk result (λ runner. Advances M.automata M.stands_for M.tells memo.old
+            memo.new [] (first_set (M.automata memo.old).firsts ∷ [] ∷ [])) }
         ensures err { OnErr result (Keeps M.automata M.stands_for memo.old memo.new) }
     {
         let none = Set::empty(alloc);
@@ -65,13 +66,18 @@ impl Runner {
     /// The ids of the filters that hold of the document, rising, when all its events have been
     /// taken.
     pub fn finish<M: Memo>(self, alloc: Global, memo: &mut M) -> Result<Ids, AllocError>
-        requires whole { (root : Root) × HasRun M.automata M.stands_for memo.old self (events_of root) }
-        ensures accepted { IfOk result (λ ids. (root : Root) → HasRun M.automata M.stands_for memo.old self (events_of root) →
-            ids ≡ accepted (machine_of (M.automata memo.old).states) (M.automata memo.old).firsts (root_content root)) }
+        requires whole { (root : Root) × HasRun M.automata M.stands_for memo.old self
+            (events_of root) }
+        ensures accepted { IfOk result (λ ids. (root : Root) →
+            HasRun M.automata M.stands_for memo.old self (events_of root) →
+            ids ≡ accepted (machine_of (M.automata memo.old).states) (M.automata memo.old).firsts
+            (root_content root)) }
         ensures matches { IfOk result (λ ids. (history : List Change) (root : Root) →
-            M.automata memo.old ≡ afa.program history → HaveSteps (live history) → HasRun M.automata M.stands_for memo.old self (events_of root) →
+            M.automata memo.old ≡ afa.program history → HaveSteps (live history) →
+            HasRun M.automata M.stands_for memo.old self (events_of root) →
             ids ≡ matches history root) }
-        ensures ok { IfOk result (λ ids. Advances M.automata M.stands_for M.tells memo.old memo.new [] []) }
+        ensures ok { IfOk result (λ ids. Advances M.automata M.stands_for M.tells memo.old memo.new
+            [] []) }
         ensures err { OnErr result (Keeps M.automata M.stands_for memo.old memo.new) }
     {
         let gathered = memo.set_of(&self.innermost.gathered)?;
@@ -85,14 +91,18 @@ impl Runner {
         self.steps
     }
 
-    /// Takes the next event of a document. The events so far and this one are fewer than 2^60. After
-    /// `AllocError` the runner may only be dropped.
+    /// Takes the next event of a document. The events so far and this one are fewer than 2^60.
+    /// After `AllocError` the runner may only be dropped.
     pub fn event<M: Memo>(&mut self, next: Happening<'_>, memo: &mut M) -> Result<(), AllocError>
-        requires begun { (given : List Happened) × HasRun M.automata M.stands_for memo.old self.old given × (length given + 1 < 2 ^ 60) }
-        ensures ok { OnOk result ((given : List Happened) → HasRun M.automata M.stands_for memo.old self.old given →
+        requires begun { (given : List Happened) ×
+            HasRun M.automata M.stands_for memo.old self.old given × (length given + 1 < 2 ^ 60) }
+        ensures ok { OnOk result ((given : List Happened) →
+            HasRun M.automata M.stands_for memo.old self.old given →
             HasRun M.automata M.stands_for memo.new self.new (given ++ (event_of next.entry) ∷ [])
             × Advances M.automata M.stands_for M.tells memo.old memo.new
-            (event_steps (M.automata memo.old).states (after_events (M.automata memo.old).states (ground (M.automata memo.old)) given) (event_of next.entry)) (held_by (event_of next.entry))) }
+            (event_steps (M.automata memo.old).states
+            (after_events (M.automata memo.old).states (ground (M.automata memo.old)) given)
+            (event_of next.entry)) (held_by (event_of next.entry))) }
         ensures err { OnErr result (Keeps M.automata M.stands_for memo.old memo.new) }
     {
         self.take(next, memo)
@@ -100,10 +110,16 @@ impl Runner {
 
     // The next event, whatever came before.
     fn take<M: Memo>(&mut self, next: Happening<'_>, memo: &mut M) -> Result<(), AllocError>
-        requires at { (opened : Opened) × (made : ℕ) × IsAt M.automata M.stands_for memo.old self.old opened made × (made + 7 < 2 ^ 64) }
-        ensures ok { OnOk result ((opened : Opened) (made : ℕ) → IsAt M.automata M.stands_for memo.old self.old opened made →
-            IsAt M.automata M.stands_for memo.new self.new (after_event (M.automata memo.old).states opened (event_of next.entry)) (made + length (event_steps (M.automata memo.old).states opened (event_of next.entry)))
-            × Advances M.automata M.stands_for M.tells memo.old memo.new (event_steps (M.automata memo.old).states opened (event_of next.entry)) (held_by (event_of next.entry))) }
+        requires at { (opened : Opened) × (made : ℕ) ×
+            IsAt M.automata M.stands_for memo.old self.old opened made × (made + 7 < 2 ^ 64) }
+        ensures ok { OnOk result ((opened : Opened) (made : ℕ) →
+            IsAt M.automata M.stands_for memo.old self.old opened made →
+            IsAt M.automata M.stands_for memo.new self.new
+            (after_event (M.automata memo.old).states opened (event_of next.entry))
+            (made + length (event_steps (M.automata memo.old).states opened (event_of next.entry)))
+            × Advances M.automata M.stands_for M.tells memo.old memo.new
+            (event_steps (M.automata memo.old).states opened (event_of next.entry))
+            (held_by (event_of next.entry))) }
         ensures err { OnErr result (Keeps M.automata M.stands_for memo.old memo.new) }
     {
         match next {
@@ -129,14 +145,23 @@ impl Runner {
         said: &[u8],
     ) -> Result<(), AllocError>
         requires label { IsLabel (M.automata memo.old).states label }
-        requires at { (opened : Opened) × (made : ℕ) × IsAt M.automata M.stands_for memo.old self.old opened made × (made + 6 < 2 ^ 64) }
-        ensures ok { OnOk result ((opened : Opened) (made : ℕ) → IsAt M.automata M.stands_for memo.old self.old opened made →
+        requires at { (opened : Opened) × (made : ℕ) ×
+            IsAt M.automata M.stands_for memo.old self.old opened made × (made + 6 < 2 ^ 64) }
+        ensures ok { OnOk result ((opened : Opened) (made : ℕ) →
+            IsAt M.automata M.stands_for memo.old self.old opened made →
             IsAt M.automata M.stands_for memo.new self.new
-            (record { innermost = with_child (M.automata memo.old).states opened.innermost (values_in (M.automata memo.old).states value.now) label said.now; outer = opened.outer })
+            (record {
+              innermost = with_child (M.automata memo.old).states opened.innermost
+                  (values_in (M.automata memo.old).states value.now) label said.now;
+              outer =
+                  opened.outer;
+            })
             (made + 6)
             × Advances M.automata M.stands_for M.tells memo.old memo.new
             (value_steps (M.automata memo.old).states value.now
-            ++ raise_steps (M.automata memo.old).states opened.innermost.needed opened.innermost.gathered (values_in (M.automata memo.old).states value.now) label) []) }
+            ++ raise_steps (M.automata memo.old).states opened.innermost.needed
+            opened.innermost.gathered (values_in (M.automata memo.old).states value.now) label)
+            []) }
         ensures err { OnErr result (Keeps M.automata M.stands_for memo.old memo.new) }
     {
         let set = text_values(memo, value)?;
@@ -149,10 +174,15 @@ impl Runner {
     // The start of an element with the label.
     fn start<M: Memo>(&mut self, memo: &mut M, label: u32) -> Result<(), AllocError>
         requires label { IsLabel (M.automata memo.old).states label }
-        requires at { (opened : Opened) × (made : ℕ) × IsAt M.automata M.stands_for memo.old self.old opened made × (made + 1 < 2 ^ 64) }
-        ensures ok { OnOk result ((opened : Opened) (made : ℕ) → IsAt M.automata M.stands_for memo.old self.old opened made →
-            IsAt M.automata M.stands_for memo.new self.new (begun (M.automata memo.old).states opened label) (made + 1)
-            × Advances M.automata M.stands_for M.tells memo.old memo.new (step (M.automata memo.old).states Push (set_of opened.innermost.needed) (index label) ∷ []) ([] ∷ [])) }
+        requires at { (opened : Opened) × (made : ℕ) ×
+            IsAt M.automata M.stands_for memo.old self.old opened made × (made + 1 < 2 ^ 64) }
+        ensures ok { OnOk result ((opened : Opened) (made : ℕ) →
+            IsAt M.automata M.stands_for memo.old self.old opened made →
+            IsAt M.automata M.stands_for memo.new self.new
+            (begun (M.automata memo.old).states opened label) (made + 1)
+            × Advances M.automata M.stands_for M.tells memo.old memo.new
+            (step (M.automata memo.old).states Push (set_of opened.innermost.needed) (index label) ∷
+            []) ([] ∷ [])) }
         ensures err { OnErr result (Keeps M.automata M.stands_for memo.old memo.new) }
     {
         let needed = push(memo, &self.innermost.needed, label)?;
@@ -171,11 +201,15 @@ impl Runner {
 
     // The end of the innermost element.
     fn end<M: Memo>(&mut self, memo: &mut M) -> Result<(), AllocError>
-        requires at { (opened : Opened) × (made : ℕ) × IsAt M.automata M.stands_for memo.old self.old opened made × (made + 7 < 2 ^ 64) }
-        ensures ok { OnOk result ((opened : Opened) (made : ℕ) → IsAt M.automata M.stands_for memo.old self.old opened made →
-            IsAt M.automata M.stands_for memo.new self.new (after_end (M.automata memo.old).states opened.innermost opened.outer)
+        requires at { (opened : Opened) × (made : ℕ) ×
+            IsAt M.automata M.stands_for memo.old self.old opened made × (made + 7 < 2 ^ 64) }
+        ensures ok { OnOk result ((opened : Opened) (made : ℕ) →
+            IsAt M.automata M.stands_for memo.old self.old opened made →
+            IsAt M.automata M.stands_for memo.new self.new
+            (after_end (M.automata memo.old).states opened.innermost opened.outer)
             (made + length (end_steps (M.automata memo.old).states opened.innermost opened.outer))
-            × Advances M.automata M.stands_for M.tells memo.old memo.new (end_steps (M.automata memo.old).states opened.innermost opened.outer) []) }
+            × Advances M.automata M.stands_for M.tells memo.old memo.new
+            (end_steps (M.automata memo.old).states opened.innermost opened.outer) []) }
         ensures err { OnErr result (Keeps M.automata M.stands_for memo.old memo.new) }
     {
         let Some(mut parent) = self.outer.pop() else {
@@ -192,9 +226,11 @@ impl Runner {
 // The document root before the first event.
 fn ground_frame<M: Memo>(memo: &mut M, none: &Set) -> Result<Frame, AllocError>
     requires none { none.now ≡ [] }
-    ensures open { IfOk result (λ frame. IsOpen M.automata M.stands_for memo.new frame (ground (M.automata memo.old)).innermost) }
+    ensures open { IfOk result (λ frame. IsOpen M.automata M.stands_for memo.new frame
+        (ground (M.automata memo.old)).innermost) }
     ensures begins { IfOk result (λ frame. frame.begins ≡ 0) }
-    ensures held { IfOk result (λ frame. Advances M.automata M.stands_for M.tells memo.old memo.new [] (first_set (M.automata memo.old).firsts ∷ [] ∷ [])) }
+    ensures held { IfOk result (λ frame. Advances M.automata M.stands_for M.tells memo.old memo.new
+        [] (first_set (M.automata memo.old).firsts ∷ [] ∷ [])) }
     ensures err { OnErr result (Keeps M.automata M.stands_for memo.old memo.new) }
 {
     memo.program().sound();

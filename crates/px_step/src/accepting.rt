@@ -21,7 +21,8 @@ pub fn accept(alloc: Global, program: &Program, set: &Set) -> Result<Ids, AllocE
 
 // The ids of the filters whose first state is in the set, by their states.
 fn ids_of(alloc: Global, program: &Program, set: &Set) -> Result<Vec<u32>, AllocError>
-    ensures members { IfOk result (λ ids. (n : ℕ) → has ids.items n ≡ has (accepted program.now.firsts set.now) n) }
+    ensures members { IfOk result (λ ids. (n : ℕ) →
+        has ids.items n ≡ has (accepted program.now.firsts set.now) n) }
 {
     let mut ids = Vec::new(alloc);
     for state in set.as_slice() {

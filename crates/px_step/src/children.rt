@@ -28,7 +28,8 @@ pub fn pop(alloc: Global, program: &Program, set: &Set, label: u32) -> Result<Se
 
 // The states of a pop, in any order.
 fn gathered(alloc: Global, program: &Program, set: &Set, label: u32) -> Result<Vec<u32>, AllocError>
-    ensures members { IfOk result (λ states. (n : ℕ) → has states.items n ≡ has (popped program.now.states set.now label) n) }
+    ensures members { IfOk result (λ states. (n : ℕ) →
+        has states.items n ≡ has (popped program.now.states set.now label) n) }
 {
     program.sound();
     let mut given = Vec::new(alloc);
@@ -59,7 +60,8 @@ fn add_guarded(
     given: &mut Vec<u32>,
 ) -> Result<(), AllocError>
     requires sound { IsSound program.now }
-    ensures added { IfOk result (λ _. given.new.items ≡ given.old.items ++ all_guarded program.now.states (given_by program.now.states label (has set.now)) set.now) }
+    ensures added { IfOk result (λ _. given.new.items ≡ given.old.items ++
+        all_guarded program.now.states (given_by program.now.states label (has set.now)) set.now) }
 {
     for guard in set.as_slice() {
         add_given(program, set, label, program.guarded_by(*guard), given)?;
@@ -76,7 +78,8 @@ fn add_given(
     given: &mut Vec<u32>,
 ) -> Result<(), AllocError>
     requires sound { IsSound program.now }
-    ensures added { IfOk result (λ _. given.new.items ≡ given.old.items ++ filter (given_by program.now.states label (has set.now)) states.now) }
+    ensures added { IfOk result (λ _. given.new.items ≡ given.old.items ++
+        filter (given_by program.now.states label (has set.now)) states.now) }
 {
     for n in states {
         if is_given(program, set, label, *n) {
@@ -98,7 +101,8 @@ fn is_given(program: &Program, set: &Set, label: u32, n: u32) -> bool
 fn has_true_body(program: &Program, set: &Set, n: u32) -> bool
     requires sound { IsSound program.now }
     requires there { n < length program.now.states }
-    ensures body { result ≡ has_body program.now.states (has set.now) (state_at program.now.states n) }
+    ensures body { result ≡ has_body program.now.states (has set.now)
+        (state_at program.now.states n) }
 {
     match program.state(n) {
         State::Path { body, .. } => body_is_true(program, set, *body),
@@ -116,7 +120,8 @@ fn add_lasting(
     label: u32,
     given: &mut Vec<u32>,
 ) -> Result<(), AllocError>
-    ensures added { IfOk result (λ _. given.new.items ≡ given.old.items ++ filter (lasts program.now.states label) set.now) }
+    ensures added { IfOk result (λ _. given.new.items ≡ given.old.items ++
+        filter (lasts program.now.states label) set.now) }
 {
     if !program.is_element(label) {
         return Ok(());

@@ -32,7 +32,8 @@ fn is_true(program: &Program, set: &Set, n: u32) -> bool
 fn some_part_is(program: &Program, set: &Set, parts: &[u64], wanted: bool) -> bool
     requires sound { IsSound program.now }
     requires there { list_all (λ p. nat_lt p (length program.now.states)) parts.now ≡ true }
-    ensures some { result ≡ list_any (λ p. beq (true_in program.now.states (has set.now) p) wanted) parts.now }
+    ensures some { result ≡ list_any (λ p. beq (true_in program.now.states (has set.now) p) wanted)
+        parts.now }
 {
     for part in parts {
         if is_true(program, set, *part as u32) == wanted {

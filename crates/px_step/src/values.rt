@@ -31,7 +31,8 @@ pub fn value_text(alloc: Global, program: &Program, class: u32) -> Result<Set, A
 // The Value states `!=` of a literal of another class.
 fn unequal(alloc: Global, program: &Program, class: u32) -> Result<Vec<u32>, AllocError>
     ensures others { IfOk result (λ others. others.items ≡
-        filter (λ n. not (nat_eq class (own_class program.now.states (state_at program.now.states n)))) (unequal_texts program.now.states)) }
+        filter (λ n. not (nat_eq class (own_class program.now.states
+        (state_at program.now.states n)))) (unequal_texts program.now.states)) }
 {
     let mut others = Vec::new(alloc);
     for n in program.unequal_texts() {
@@ -54,7 +55,8 @@ pub fn value_number(alloc: Global, program: &Program, class: u32) -> Result<Set,
 
 // The Value states with a number that are true of the class, by their relations.
 fn true_numbers(alloc: Global, program: &Program, class: u32) -> Result<Vec<u32>, AllocError>
-    ensures members { IfOk result (λ states. (n : ℕ) → has states.items n ≡ has (number_values program.now.states class) n) }
+    ensures members { IfOk result (λ states. (n : ℕ) →
+        has states.items n ≡ has (number_values program.now.states class) n) }
 {
     let mut states = Vec::new(alloc);
     add_true(program, Relation::Equal, class, &mut states)?;
@@ -75,7 +77,8 @@ fn add_true(
     states: &mut Vec<u32>,
 ) -> Result<(), AllocError>
     ensures added { IfOk result (λ _. (n : ℕ) → has states.new.items n ≡ (has states.old.items n ||
-        (relates_number relation (state_at program.now.states n) && class_compares relation class (own_class program.now.states (state_at program.now.states n))))) }
+        (relates_number relation (state_at program.now.states n) && class_compares relation class
+        (own_class program.now.states (state_at program.now.states n))))) }
 {
     let entries = program.related(relation);
     let (lower, rest) = entries.split_at(count_below(entries, u64::from(class)));
@@ -89,15 +92,18 @@ fn add_true(
 fn count_below(entries: &[Related], class: u64) -> usize
     requires rising { IsNonDecreasingBy (λ (entry : Related). entry.class) entries.now }
     ensures within { result ≤ length entries.now }
-    ensures front { take result entries.now ≡ filter (λ (entry : Related). nat_lt entry.class class) entries.now }
-    ensures back { drop result entries.now ≡ filter (λ (entry : Related). not (nat_lt entry.class class)) entries.now }
+    ensures front { take result entries.now ≡
+        filter (λ (entry : Related). nat_lt entry.class class) entries.now }
+    ensures back { drop result entries.now ≡
+        filter (λ (entry : Related). not (nat_lt entry.class class)) entries.now }
 {
     entries.partition_point(|entry| u64::from(entry.class) < class)
 }
 
 // Adds the states of the entries, if they are wanted.
 fn add_if(wanted: bool, entries: &[Related], states: &mut Vec<u32>) -> Result<(), AllocError>
-    ensures added { IfOk result (λ _. states.new.items ≡ states.old.items ++ cond wanted (map (λ (entry : Related). entry.state) entries.now) []) }
+    ensures added { IfOk result (λ _. states.new.items ≡ states.old.items ++
+        cond wanted (map (λ (entry : Related). entry.state) entries.now) []) }
 {
     if !wanted {
         return Ok(());

@@ -202,7 +202,8 @@ impl Eq for Words {
     ghost laws = { nat_list_eq_equiv };
 }
 
-/// Lists of words are ordered by the first word at which they differ, shorter first where one begins the other.
+/// Lists of words are ordered by the first word at which they differ, shorter first where one
+/// begins the other.
 impl PartialOrd for Words {
     ghost partial_cmp = { λ x y. Some (slice_cmp nat_cmp x y) };
 

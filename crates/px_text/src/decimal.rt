@@ -105,7 +105,7 @@ impl Ord for Decimal {
 /// One as a number of units.
 const UNITS_OF_ONE: u128 = 1_000_000_000_000_000_000;
 
-/// The number that at most 18 digits write.
+// The number that at most 18 digits write.
 fn value_of(digits: &[u8]) -> u64
     requires digits { IsTrue (list_all names.is_digit digits.now) }
     requires short { length digits.now ≤ 18 }
@@ -119,7 +119,7 @@ fn value_of(digits: &[u8]) -> u64
     value
 }
 
-/// A number with a sign.
+// A number with a sign.
 fn signed(is_negative: bool, magnitude: u128) -> i128
     requires { magnitude < 10 ^ 36 }
     ensures value { result ≡ signed is_negative magnitude }

@@ -18,7 +18,8 @@ pub(crate) struct WholeDigits {
     pub(crate) ghost bounded: { value < 10 ^ count },
 }
 
-/// The digits after a point: the value of the first 18, their number, cut to 19, and whether one behind the first 18 is not 0.
+/// The digits after a point: the value of the first 18, their number, cut to 19, and whether one
+/// behind the first 18 is not 0.
 #[derive(Clone, Copy, Debug)]
 pub(crate) struct FractionDigits {
     pub(crate) value: u64,
@@ -66,7 +67,8 @@ impl FractionDigits {
     /// These digits and one more.
     pub(crate) fn and(self, digit: u8) -> FractionDigits
         requires { IsTrue (is_digit digit) }
-        ensures { (digits : List ℕ) → IsFraction self digits → IsFraction result (digits ++ digit ∷ []) }
+        ensures { (digits : List ℕ) → IsFraction self digits →
+            IsFraction result (digits ++ digit ∷ []) }
     {
         if self.count < PLACES {
             return FractionDigits {

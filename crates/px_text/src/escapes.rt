@@ -6,9 +6,11 @@ ghost use Rattle.px_text.specs.Escapes.{unescaped};
 use memchr::memchr;
 use std::alloc::AllocError;
 
-/// Appends a text with its escapes read. It fails only for want of memory, and then the vector is unchanged.
+/// Appends a text with its escapes read. It fails only for want of memory, and then the vector is
+/// unchanged.
 pub fn unescape(text: &[u8], out: &mut Vec<u8>) -> Result<(), AllocError>
-    ensures items { out.new.items ≡ (if is_ok result then out.old.items ++ unescaped text.now else out.old.items) }
+    ensures items { out.new.items ≡ (if is_ok result then out.old.items ++
+        unescaped text.now else out.old.items) }
 {
     out.reserve(text.len())?;
     let mut rest = text;
@@ -22,7 +24,7 @@ pub fn unescape(text: &[u8], out: &mut Vec<u8>) -> Result<(), AllocError>
     out.extend_from_slice(rest)
 }
 
-/// What a backslash stands for, alone at the end of a text or with the byte behind it.
+// What a backslash stands for, alone at the end of a text or with the byte behind it.
 fn read_escape(escape: &[u8]) -> &[u8]
     requires backslash { slice_index escape.now 0 ≡ 92 }
     requires short { length escape.now ≤ 2 }

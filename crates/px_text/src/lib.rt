@@ -1,8 +1,8 @@
 //! What every other crate speaks of: bytes, names, escapes, exact decimals and sets of numbers.
 //!
 //! It is the bottom of the house. Contracts see [`Bytes`] as a list of byte values and a
-//! [`Decimal`] as a whole number of units of 10^-18, and a [`Set`] as a strictly rising list. The definitions of a tree, of names and of
-//! numbers stand in `specs/`.
+//! [`Decimal`] as a whole number of units of 10^-18, and a [`Set`] as a strictly rising list. The
+//! definitions of a tree, of names and of numbers stand in `specs/`.
 #![tactic(auto)]
 
 mod attribute;

@@ -94,7 +94,7 @@ fn all_continue_part(bytes: &[u8]) -> bool
     bytes.iter().all(|byte| continues_part(*byte))
 }
 
-/// Whether bytes behind the first one of a part end a filter's name.
+// Whether bytes behind the first one of a part end a filter's name.
 #[tactic(auto, using(crate::proofs::NameParts::end_at))]
 fn ends_filter_name(text: &[u8]) -> bool
     ensures { result ≡ names.ends_filter_name text.now }

@@ -1,6 +1,7 @@
 //! The operations of a step of the machine.
 
-/// What a step computes: from a class of texts or of numbers, from a set and a label, or from two sets.
+/// What a step computes: from a class of texts or of numbers, from a set and a label, or from two
+/// sets.
 #[derive(Clone, Copy, Debug, PartialEq, Eq, Drop)]
 pub enum Op {
     /// The Value states with a string literal that are true of a text of the class.

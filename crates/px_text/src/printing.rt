@@ -11,9 +11,11 @@ use std::alloc::AllocError;
 const MOST_BYTES: usize = 38;
 
 impl Decimal {
-    /// Appends the decimal as it is printed. It fails only for want of memory, and then the vector is unchanged.
+    /// Appends the decimal as it is printed. It fails only for want of memory, and then the vector
+    /// is unchanged.
     pub fn write(&self, out: &mut Vec<u8>) -> Result<(), AllocError>
-        ensures items { out.new.items ≡ (if is_ok result then out.old.items ++ printed self.now else out.old.items) }
+        ensures items { out.new.items ≡ (if is_ok result then out.old.items ++
+            printed self.now else out.old.items) }
     {
         out.reserve(MOST_BYTES)?;
         let units = self.units();
@@ -27,7 +29,7 @@ impl Decimal {
     }
 }
 
-/// Appends a byte where there is room.
+// Appends a byte where there is room.
 fn push_within(byte: u8, out: &mut Vec<u8>)
     requires room { vec_len out.old < vec_capacity out.old }
     ensures items { out.new.items ≡ out.old.items ++ byte ∷ [] }
@@ -37,7 +39,7 @@ fn push_within(byte: u8, out: &mut Vec<u8>)
     let _ = out.push(byte);
 }
 
-/// Appends the digits before the point.
+// Appends the digits before the point.
 fn push_whole(whole: u64, out: &mut Vec<u8>)
     requires below { whole < 10 ^ 18 }
     requires room { vec_len out.old + 18 ≤ vec_capacity out.old }
@@ -52,7 +54,7 @@ fn push_whole(whole: u64, out: &mut Vec<u8>)
     }
 }
 
-/// Appends the digits of a number, the last one last; none for 0.
+// Appends the digits of a number, the last one last; none for 0.
 fn push_digits(number: u64, out: &mut Vec<u8>)
     requires room { vec_len out.old + length (digits_text number) ≤ vec_capacity out.old }
     ensures items { out.new.items ≡ out.old.items ++ digits_text number }
@@ -65,11 +67,12 @@ fn push_digits(number: u64, out: &mut Vec<u8>)
     }
 }
 
-/// Appends a point and the digits after it, where there is a fraction.
+// Appends a point and the digits after it, where there is a fraction.
 fn push_fraction(fraction: u64, out: &mut Vec<u8>)
     requires below { fraction < 10 ^ 18 }
     requires room { vec_len out.old + 19 ≤ vec_capacity out.old }
-    ensures items { out.new.items ≡ out.old.items ++ (if fraction == 0 then [] else 46 ∷ fraction_text 18 fraction) }
+    ensures items { out.new.items ≡ out.old.items ++
+        (if fraction == 0 then [] else 46 ∷ fraction_text 18 fraction) }
 {
     if fraction > 0 {
         push_within(b'.', out);
@@ -77,7 +80,7 @@ fn push_fraction(fraction: u64, out: &mut Vec<u8>)
     }
 }
 
-/// Appends the digits of eighteen places, up to the last that is not 0.
+// Appends the digits of eighteen places, up to the last that is not 0.
 fn push_places(fraction: u64, out: &mut Vec<u8>)
     requires below { fraction < 10 ^ 18 }
     requires room { vec_len out.old + 18 ≤ vec_capacity out.old }

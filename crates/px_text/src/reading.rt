@@ -31,11 +31,13 @@ impl Decimal {
         scan.reading()
     }
 
-    /// How the number that a text is stands to this one, `Less` where the text's is less, or nothing where the text is no number.
-    /// Digits count however many there are. It takes no memory.
+    /// How the number that a text is stands to this one, `Less` where the text's is less, or
+    /// nothing where the text is no number. Digits count however many there are. It takes no
+    /// memory.
     pub fn cmp_text(&self, text: &[u8]) -> Option<Ordering>
         ensures value { result ≡ option_map (λ n. order n (decimal_of self.now)) (read text.now) }
-        ensures number { (n : Number) → Reads text.now n → result ≡ Some (order n (decimal_of self.now)) }
+        ensures number { (n : Number) → Reads text.now n →
+            result ≡ Some (order n (decimal_of self.now)) }
         ensures no_number { ((n : Number) → Reads text.now n → ⊥) → result ≡ None }
     {
         let mut scan = NumberScan::start();

@@ -28,7 +28,8 @@ enum Stage {
     NotANumber,
 }
 
-/// Reads a text in pieces as a number. It keeps of the digits what matters beside a decimal, however many they are.
+/// Reads a text in pieces as a number. It keeps of the digits what matters beside a decimal,
+/// however many they are.
 #[derive(Clone, Copy, Debug)]
 pub struct NumberScan {
     stage: Stage,
@@ -67,7 +68,8 @@ impl NumberScan {
 
     /// How the number that the text is stands to a decimal, or nothing where the text is no number.
     pub fn cmp(&self, decimal: &Decimal) -> Option<Ordering>
-        ensures { (text : List ℕ) → HasTaken self.now text → result ≡ option_map (λ n. order n (decimal_of decimal.now)) (read text) }
+        ensures { (text : List ℕ) → HasTaken self.now text →
+            result ≡ option_map (λ n. order n (decimal_of decimal.now)) (read text) }
     {
         if !self.is_number() {
             return None;
@@ -79,7 +81,9 @@ impl NumberScan {
 
     /// Whether the text is a number.
     pub(crate) fn is_number(&self) -> bool
-        ensures { (text : List ℕ) → (h : HasTaken self.now text) → numeral text ≡ (if result then Some (numeral_of self.now h.whole h.fraction) else None) }
+        ensures { (text : List ℕ) → (h : HasTaken self.now text) →
+            numeral text ≡ (if result then Some (numeral_of self.now h.whole h.fraction) else
+            None) }
     {
         match self.stage {
             Stage::Before | Stage::NotANumber => false,
@@ -104,10 +108,12 @@ impl NumberScan {
         Reading::Value(Decimal::of_units(self.is_negative, self.size()))
     }
 
-    /// How the digits stand to a size in units of 10^-18.
+    // How the digits stand to a size in units of 10^-18.
     fn cmp_size(&self, size: u128) -> Ordering
         requires { size < 10 ^ 36 }
-        ensures { (whole fraction : List ℕ) → IsWhole self.now.whole whole → IsFraction self.now.fraction fraction → list_all is_digit fraction ≡ true → result ≡ nat_cmp (value (whole ++ fraction) * 10 ^ 18) (size * 10 ^ length fraction) }
+        ensures { (whole fraction : List ℕ) → IsWhole self.now.whole whole →
+            IsFraction self.now.fraction fraction → list_all is_digit fraction ≡ true →
+            result ≡ nat_cmp (value (whole ++ fraction) * 10 ^ 18) (size * 10 ^ length fraction) }
     {
         let below = if self.fraction.goes_below {
             Ordering::Greater
@@ -117,9 +123,10 @@ impl NumberScan {
         self.size().cmp(&size).then(below)
     }
 
-    /// What is kept of the digits, in units of 10^-18.
+    // What is kept of the digits, in units of 10^-18.
     fn size(&self) -> u128
-        ensures value { result ≡ self.now.whole.value * 10 ^ 18 + self.now.fraction.value * 10 ^ (18 - self.now.fraction.count) }
+        ensures value { result ≡ self.now.whole.value * 10 ^ 18 + self.now.fraction.value * 10 ^
+            (18 - self.now.fraction.count) }
         ensures bounded { result < (self.now.whole.value + 1) * 10 ^ 18 }
     {
         let missing = u32::from(PLACES.saturating_sub(self.fraction.count));
@@ -139,7 +146,7 @@ impl NumberScan {
         }
     }
 
-    /// White space before a number, or its first byte.
+    // White space before a number, or its first byte.
     fn take_first(&mut self, byte: u8)
         requires { self.old.stage ≡ Before }
         ensures { (text : List ℕ) → HasTaken self.old text → HasTaken self.new (text ++ byte ∷ []) }
@@ -195,9 +202,12 @@ impl NumberScan {
     }
 }
 
-/// How a number stands to a decimal, by its sign, the decimal's, and how its size stands to the decimal's.
+// How a number stands to a decimal, by its sign, the decimal's, and how its size stands to the
+// decimal's.
 fn with_signs(is_negative: bool, units: i128, size: Ordering) -> Ordering
-    ensures { result ≡ (if is_negative then (if int_lt (pos 0) units then Less else ordering_reverse size) else (if int_lt units (pos 0) then Greater else size)) }
+    ensures { result ≡ (if is_negative then
+        (if int_lt (pos 0) units then Less else ordering_reverse size) else
+        (if int_lt units (pos 0) then Greater else size)) }
 {
     if is_negative {
         if units > 0 {
@@ -216,7 +226,7 @@ mod tests {
     use std::alloc::{AllocError, Global};
     use std::test::Fail;
 
-    /// A one among zeros: so many before it, behind it, and between the point and a last digit.
+    // A one among zeros: so many before it, behind it, and between the point and a last digit.
     fn one_among_zeros(
         alloc: Global,
         before: usize,

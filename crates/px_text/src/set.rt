@@ -38,7 +38,8 @@ impl Set {
         }
     }
 
-    /// The set of these numbers, which rise. It takes memory for them, and its only failure is want of memory.
+    /// The set of these numbers, which rise. It takes memory for them, and its only failure is want
+    /// of memory.
     pub fn of(alloc: Global, numbers: &[u32]) -> Result<Set, AllocError>
         requires rising { Rising numbers.now }
         ensures copies { IfOk result (λ set. set ≡ numbers.now) }
@@ -104,7 +105,8 @@ impl Eq for Set {
     ghost laws = { nat_list_eq_equiv };
 }
 
-/// Sets are ordered by the first number at which they differ, shorter first where one begins the other.
+/// Sets are ordered by the first number at which they differ, shorter first where one begins the
+/// other.
 impl PartialOrd for Set {
     ghost partial_cmp = { λ x y. Some (slice_cmp nat_cmp x y) };
 

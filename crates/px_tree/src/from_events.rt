@@ -19,7 +19,8 @@ use std::alloc::{AllocError, Global};
 /// of memory.
 pub fn build(alloc: Global, events: &[Event]) -> Result<Tree, AllocError>
     requires of_a_tree { (root : Root) × (events.now ≡ spelling.events_of root) }
-    ensures { (root : Root) → events.now ≡ spelling.events_of root → IfOk result (λ t. trees.tree t ≡ root) }
+    ensures { (root : Root) → events.now ≡ spelling.events_of root →
+        IfOk result (λ t. trees.tree t ≡ root) }
 {
     match events {
         [Event::Start { name }, behind @ ..] => {
@@ -30,8 +31,8 @@ pub fn build(alloc: Global, events: &[Event]) -> Result<Tree, AllocError>
     }
 }
 
-/// The element with this name whose attributes and children the events begin with, and the events
-/// behind its end.
+// The element with this name whose attributes and children the events begin with, and the events
+// behind its end.
 #[cycle(build)]
 fn read_element<'a>(
     alloc: Global,
@@ -39,9 +40,12 @@ fn read_element<'a>(
     events: &'a [Event],
 ) -> Result<(Element, &'a [Event]), AllocError>
     ensures fewer { IfOk result (λ r. length r.1.now ≤ length events.now) }
-    ensures parts { (attributes : List attribute.Attribute) (children : Nodes) (rest : List event.Event) →
-        events.now ≡ map spelling.attribute_event attributes ++ (spelling.events children ++ End ∷ rest) →
-        IfOk result (λ r. (r.0.name ≡ name.now) × (r.0.attributes ≡ attributes) × (trees.nodes r.0.children ≡ children) × (r.1.now ≡ rest)) }
+    ensures parts { (attributes : List attribute.Attribute) (children : Nodes)
+        (rest : List event.Event) →
+        events.now ≡ map spelling.attribute_event attributes ++ (spelling.events children ++
+        End ∷ rest) →
+        IfOk result (λ r. (r.0.name ≡ name.now) × (r.0.attributes ≡ attributes) ×
+        (trees.nodes r.0.children ≡ children) × (r.1.now ≡ rest)) }
 {
     let (attributes, behind) = read_attributes(alloc, events)?;
     let (children, behind) = read_children(alloc, behind)?;
@@ -53,13 +57,14 @@ fn read_element<'a>(
     Ok((element, behind))
 }
 
-/// The attributes that the events begin with, and the events behind them.
+// The attributes that the events begin with, and the events behind them.
 fn read_attributes(
     alloc: Global,
     events: &[Event],
 ) -> Result<(Items<Attribute>, &[Event]), AllocError>
     ensures fewer { IfOk result (λ r. length r.1.now ≤ length events.now) }
-    ensures parts { IfOk result (λ r. (r.0 ≡ attributes_of events.now) × (r.1.now ≡ behind_attributes events.now)) }
+    ensures parts { IfOk result (λ r. (r.0 ≡ attributes_of events.now) ×
+        (r.1.now ≡ behind_attributes events.now)) }
 {
     let mut attributes = Items::new(alloc);
     let mut behind = events;
@@ -73,8 +78,8 @@ fn read_attributes(
     Ok((attributes, behind))
 }
 
-/// The children that the events begin with, up to the end of their element, and the events behind
-/// that.
+// The children that the events begin with, up to the end of their element, and the events behind
+// that.
 #[cycle(build)]
 fn read_children(alloc: Global, events: &[Event]) -> Result<(Items<Node>, &[Event]), AllocError>
     ensures fewer { IfOk result (λ r. length r.1.now ≤ length events.now) }

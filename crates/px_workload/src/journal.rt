@@ -45,7 +45,11 @@ impl Model for Journal {
 
     ghost coded = { accepted_code };
 
-    ghost view = { λ j. record { changes = j.past.changes; room = vec_capacity j.table.slots - vec_len j.table.slots } };
+    ghost view = { λ j. record {
+      changes = j.past.changes;
+      room = vec_capacity j.table.slots -
+          vec_len j.table.slots;
+    } };
 
     ghost invariant = { λ j. Stands j.past.changes j.table.slots.items };
 }
@@ -85,8 +89,10 @@ impl Journal {
 
     /// Why a change may not come next, or none where it may. It takes no memory.
     pub fn refusal(&self, change: &Change) -> Option<Refusal>
-        ensures refusal { result ≡ refusal (changes.history self.now.changes) (changes.change change.now) }
-        ensures legal { result ≡ None → histories.IsLegal (changes.history (self.now.changes ++ change.now ∷ [])) }
+        ensures refusal { result ≡ refusal (changes.history self.now.changes)
+            (changes.change change.now) }
+        ensures legal { result ≡ None → histories.IsLegal (changes.history (self.now.changes ++
+            change.now ∷ [])) }
     {
         // The history is legal.
         let _version = self.version();
@@ -99,7 +105,8 @@ impl Journal {
 
     // Why an id may not be dropped.
     fn refuses_drop(&self, id: u32) -> Option<Refusal>
-        ensures refusal { result ≡ refuses_drop (changes.history self.now.changes) (find (histories.is_of id) (histories.live (changes.history self.now.changes))) }
+        ensures refusal { result ≡ refuses_drop (changes.history self.now.changes)
+            (find (histories.is_of id) (histories.live (changes.history self.now.changes))) }
     {
         if !self.is_live(id) {
             return Some(Refusal::Unknown);
@@ -110,9 +117,13 @@ impl Journal {
     // Why a filter may not take the place of that of an id.
     fn refuses_replacement(&self, id: u32, filter: &Filter) -> Option<Refusal>
         ensures refusal { result ≡ refuses_replacement (changes.history self.now.changes)
-            (find (histories.is_of id) (histories.live (changes.history self.now.changes))) (whole.filter filter.now) }
-        ensures live { result ≡ None → histories.IsLive id (histories.live (changes.history self.now.changes)) }
-        ensures fits { result ≡ None → (histories.live_size (histories.after 0 (histories.live (changes.history self.now.changes)) (histories.Replaces 0 id (whole.filter filter.now))) ≤ 500_000)
+            (find (histories.is_of id) (histories.live (changes.history self.now.changes)))
+            (whole.filter filter.now) }
+        ensures live { result ≡ None → histories.IsLive id
+            (histories.live (changes.history self.now.changes)) }
+        ensures fits { result ≡ None → (histories.live_size
+            (histories.after 0 (histories.live (changes.history self.now.changes))
+            (histories.Replaces 0 id (whole.filter filter.now))) ≤ 500_000)
             × (length (changes.history self.now.changes) < 1_048_575) }
     {
         if !self.is_live(id) {
@@ -124,7 +135,8 @@ impl Journal {
 
     // Why a filter may not come beside others of this size.
     fn refuses_beside(&self, others: u32, filter: &Filter) -> Option<Refusal>
-        ensures refusal { result ≡ refuses_beside (changes.history self.now.changes) others (whole.filter filter.now) }
+        ensures refusal { result ≡ refuses_beside (changes.history self.now.changes) others
+            (whole.filter filter.now) }
     {
         if u64::from(others) + u64::from(size(filter)) > MOST_SIZE {
             return Some(Refusal::TooLarge { live: others });
@@ -158,24 +170,31 @@ impl Journal {
     }
 
     pub fn is_live(&self, id: u32) -> bool
-        ensures { IsTrue result ↔ histories.IsLive id (histories.live (changes.history self.now.changes)) }
+        ensures { IsTrue result ↔ histories.IsLive id
+            (histories.live (changes.history self.now.changes)) }
     {
         self.table.filter_of(id).is_some()
     }
 
     /// The live filter of an id. It takes no memory.
     pub fn filter_of(&self, id: u32) -> Option<&Filter>
-        ensures found { option_map (λ filter. named id filter.now) result ≡ find (histories.is_of id) (histories.live (changes.history self.now.changes)) }
+        ensures found { option_map (λ filter. named id filter.now) result ≡
+            find (histories.is_of id) (histories.live (changes.history self.now.changes)) }
     {
         self.table.filter_of(id)
     }
 
-    /// The size of a live filter. Without it, and with the size of another, the live size is that of
-    /// the workload in which the other takes its place.
+    /// The size of a live filter. Without it, and with the size of another, the live size is that
+    /// of the workload in which the other takes its place.
     pub fn size_of(&self, id: u32) -> u32
         requires live { histories.IsLive id (histories.live (changes.history self.now.changes)) }
-        ensures size { IfSome (find (histories.is_of id) (histories.live (changes.history self.now.changes))) (λ s. result ≡ histories.size s.filter) }
-        ensures others { (new : Filter) → let live = histories.live (changes.history self.now.changes) in histories.live_size (histories.after 0 live (histories.Replaces 0 id (whole.filter new))) + result ≡ histories.live_size live + histories.size (whole.filter new) }
+        ensures size { IfSome (find (histories.is_of id)
+            (histories.live (changes.history self.now.changes))) (λ s. result ≡
+            histories.size s.filter) }
+        ensures others { (new : Filter) →
+            let live = histories.live (changes.history self.now.changes) in histories.live_size
+            (histories.after 0 live (histories.Replaces 0 id (whole.filter new))) + result ≡
+            histories.live_size live + histories.size (whole.filter new) }
     {
         match self.table.filter_of(id) {
             Some(filter) => size(filter),
@@ -183,19 +202,21 @@ impl Journal {
         }
     }
 
-    /// The live filters in the order of their ids. It takes memory for the list alone, and fails only
-    /// where that is refused.
+    /// The live filters in the order of their ids. It takes memory for the list alone, and fails
+    /// only where that is refused.
     pub fn snapshot(&self, alloc: Global) -> Result<Live, AllocError>
-        ensures live { IfOk result (λ live. subscriptions live.filters ≡ histories.live (changes.history self.now.changes)) }
+        ensures live { IfOk result (λ live. subscriptions live.filters ≡
+            histories.live (changes.history self.now.changes)) }
     {
         Ok(Live::of(shares(alloc, &self.table.slots)?))
     }
 
-    /// The filters that would be live behind a change that may come next, in the order of their ids.
-    /// It takes memory for the list alone, and its only failure is want of memory.
+    /// The filters that would be live behind a change that may come next, in the order of their
+    /// ids. It takes memory for the list alone, and its only failure is want of memory.
     pub fn snapshot_after(&self, alloc: Global, change: &Change) -> Result<Live, AllocError>
         requires legal { histories.IsLegal (changes.history (self.now.changes ++ change.now ∷ [])) }
-        ensures live { IfOk result (λ live. subscriptions live.filters ≡ histories.live (changes.history (self.now.changes ++ change.now ∷ []))) }
+        ensures live { IfOk result (λ live. subscriptions live.filters ≡
+            histories.live (changes.history (self.now.changes ++ change.now ∷ []))) }
     {
         Ok(Live::of(shares_after(alloc, &self.table.slots, change)?))
     }

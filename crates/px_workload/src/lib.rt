@@ -4,10 +4,10 @@
 //! the next version. The id of a filter is the version that its add made, so no id comes twice.
 //! Two values follow a history, and contracts see both as lists:
 //!
-//! - [`Journal`] accepts changes ([`Journal::append`], behind [`Journal::reserve`], cannot fail). It
-//!   keeps a slot for each version with the filter that lives under this id, so a call on an id is
-//!   one index, and gives the live filters as a list ([`Journal::snapshot`]). The changes themselves
-//!   are known to proofs alone.
+//! - [`Journal`] accepts changes ([`Journal::append`], behind [`Journal::reserve`], cannot fail).
+//!   It keeps a slot for each version with the filter that lives under this id, so a call on an id
+//!   is one index, and gives the live filters as a list ([`Journal::snapshot`]). The changes
+//!   themselves are known to proofs alone.
 //! - [`Live`] is such a list, whose ids rise. It takes one change in place ([`Live::reserve`], then
 //!   [`Live::take`]), so whoever follows a history pays for each change once.
 //!

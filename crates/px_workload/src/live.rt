@@ -29,7 +29,11 @@ impl Model for Live {
 
     ghost coded = { listed_code };
 
-    ghost view = { λ live. record { filters = live.filters.items; room = vec_capacity live.filters - vec_len live.filters } };
+    ghost view = { λ live. record {
+      filters = live.filters.items;
+      room = vec_capacity live.filters -
+          vec_len live.filters;
+    } };
 
     ghost invariant = { λ live. AreInOrder live.filters.items };
 }
@@ -62,7 +66,8 @@ impl Live {
     /// An equal list, with the same filters. It takes memory for the list alone, and fails only
     /// where that is refused.
     pub fn copy(&self, alloc: Global) -> Result<Live, AllocError>
-        ensures equal { IfOk result (λ copy. subscriptions copy.filters ≡ subscriptions self.now.filters) }
+        ensures equal { IfOk result (λ copy. subscriptions copy.filters ≡
+            subscriptions self.now.filters) }
     {
         Ok(Live::of(share_all(alloc, &self.filters)?))
     }
@@ -81,7 +86,8 @@ impl Live {
     pub fn take(&mut self, version: u32, change: Change)
         requires room { 1 ≤ self.old.room }
         requires next { Rising (map (λ s. s.id) (subscriptions self.old.filters) ++ version ∷ []) }
-        ensures taken { subscriptions self.new.filters ≡ after version (subscriptions self.old.filters) (changes.change change) }
+        ensures taken { subscriptions self.new.filters ≡
+            after version (subscriptions self.old.filters) (changes.change change) }
         ensures room { self.old.room ≤ self.new.room + 1 }
     {
         match change {

@@ -15,7 +15,8 @@ use px_xpath::{Filter, Numbered};
 /// Takes the filter of an id away, if there is one.
 pub(crate) fn remove(filters: &mut Vec<Numbered>, id: u32)
     requires order { AreInOrder filters.old.items }
-    ensures kept { subscriptions filters.new.items ≡ kept (Drops 0 id) (subscriptions filters.old.items) }
+    ensures kept { subscriptions filters.new.items ≡
+        kept (Drops 0 id) (subscriptions filters.old.items) }
     ensures len { vec_len filters.new ≤ vec_len filters.old }
     ensures capacity { vec_capacity filters.new ≡ vec_capacity filters.old }
 {
@@ -30,7 +31,8 @@ pub(crate) fn remove(filters: &mut Vec<Numbered>, id: u32)
 /// Gives an id another filter, if it has one.
 pub(crate) fn replace(filters: &mut Vec<Numbered>, id: u32, filter: Filter)
     requires order { AreInOrder filters.old.items }
-    ensures kept { subscriptions filters.new.items ≡ kept (Replaces 0 id (whole.filter filter)) (subscriptions filters.old.items) }
+    ensures kept { subscriptions filters.new.items ≡
+        kept (Replaces 0 id (whole.filter filter)) (subscriptions filters.old.items) }
     ensures len { vec_len filters.new ≡ vec_len filters.old }
     ensures capacity { vec_capacity filters.new ≡ vec_capacity filters.old }
 {
@@ -40,7 +42,7 @@ pub(crate) fn replace(filters: &mut Vec<Numbered>, id: u32, filter: Filter)
     }
 }
 
-/// The place of an id, if it has one.
+// The place of an id, if it has one.
 fn place_of(filters: &[Numbered], id: u32) -> Option<usize>
     requires order { AreInOrder filters.now }
     ensures within { IfSome result (λ at. at < length filters.now) }
@@ -54,12 +56,13 @@ fn place_of(filters: &[Numbered], id: u32) -> Option<usize>
     }
 }
 
-/// How many of the filters have a lower id. It is found by halves.
+// How many of the filters have a lower id. It is found by halves.
 fn count_below(filters: &[Numbered], id: u32) -> usize
     requires order { AreInOrder filters.now }
     ensures within { result ≤ length filters.now }
     ensures lower { AllWithin (λ (n : declared.Numbered). n.id < id) filters.now 0 result }
-    ensures others { AllWithin (λ (n : declared.Numbered). id ≤ n.id) filters.now result (length filters.now) }
+    ensures others { AllWithin (λ (n : declared.Numbered). id ≤
+        n.id) filters.now result (length filters.now) }
 {
     filters.partition_point(|numbered| numbered.id < id)
 }

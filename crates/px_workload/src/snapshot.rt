@@ -29,21 +29,23 @@ pub(crate) fn shares_after(
     change: &Change,
 ) -> Result<Vec<Numbered>, AllocError>
     requires { length slots.now ≤ 1_048_575 }
-    ensures { IfOk result (λ live. subscriptions live.items ≡ after (length slots.now + 1) (listed slots.now) (changes.change change.now)) }
+    ensures { IfOk result (λ live. subscriptions live.items ≡
+        after (length slots.now + 1) (listed slots.now) (changes.change change.now)) }
 {
     let mut live = shares_kept(alloc, slots, change)?;
     push_share(&mut live, slots.len() as u32 + 1, added_by(change))?;
     Ok(live)
 }
 
-/// The filters that a change leaves or exchanges, with their ids.
+// The filters that a change leaves or exchanges, with their ids.
 fn shares_kept(
     alloc: Global,
     slots: &[Option<Filter>],
     change: &Change,
 ) -> Result<Vec<Numbered>, AllocError>
     requires { length slots.now ≤ 1_048_575 }
-    ensures { IfOk result (λ live. subscriptions live.items ≡ kept (changes.change change.now) (listed slots.now)) }
+    ensures { IfOk result (λ live. subscriptions live.items ≡
+        kept (changes.change change.now) (listed slots.now)) }
 {
     let mut live = Vec::new(alloc);
     for (at, slot) in slots.iter().enumerate() {
@@ -53,9 +55,10 @@ fn shares_kept(
     Ok(live)
 }
 
-/// What stands at an id behind a change, of what stood there before it.
+// What stands at an id behind a change, of what stood there before it.
 fn kept_by<'a>(slot: &'a Option<Filter>, id: u32, change: &'a Change) -> Option<&'a Filter>
-    ensures { listed_one id (read_slot result) ≡ kept (changes.change change.now) (listed_one id slot.now) }
+    ensures { listed_one id (read_slot result) ≡
+        kept (changes.change change.now) (listed_one id slot.now) }
 {
     let filter = slot.as_ref()?;
     match change {
@@ -69,9 +72,10 @@ fn kept_by<'a>(slot: &'a Option<Filter>, id: u32, change: &'a Change) -> Option<
     }
 }
 
-/// The filter that a change adds at the version that it makes.
+// The filter that a change adds at the version that it makes.
 fn added_by(change: &Change) -> Option<&Filter>
-    ensures { (version : ℕ) → listed_one version (read_slot result) ≡ added version (changes.change change.now) }
+    ensures { (version : ℕ) → listed_one version (read_slot result) ≡
+        added version (changes.change change.now) }
 {
     match change {
         Change::Add { filter, .. } => Some(filter),
@@ -79,9 +83,10 @@ fn added_by(change: &Change) -> Option<&Filter>
     }
 }
 
-/// Adds the filter that stands at an id, if one does.
+// Adds the filter that stands at an id, if one does.
 fn push_share(live: &mut Vec<Numbered>, id: u32, filter: Option<&Filter>) -> Result<(), AllocError>
-    ensures { OnOk result (subscriptions live.new.items ≡ subscriptions live.old.items ++ listed_one id (read_slot filter.entry)) }
+    ensures { OnOk result (subscriptions live.new.items ≡ subscriptions live.old.items ++
+        listed_one id (read_slot filter.entry)) }
 {
     let Some(filter) = filter else {
         return Ok(());

@@ -37,9 +37,14 @@ impl Table {
     /// Takes a change that may come next.
     pub(crate) fn take(&mut self, change: Change)
         requires room { vec_len self.old.slots < vec_capacity self.old.slots }
-        requires names_live { histories.NamesLive (changes.change change) (listed self.old.slots.items) }
-        requires small { histories.live_size (histories.after (length self.old.slots.items + 1) (listed self.old.slots.items) (changes.change change)) ≤ 500_000 }
-        ensures listed { listed self.new.slots.items ≡ histories.after (length self.old.slots.items + 1) (listed self.old.slots.items) (changes.change change) }
+        requires names_live { histories.NamesLive (changes.change change)
+            (listed self.old.slots.items) }
+        requires small { histories.live_size
+            (histories.after (length self.old.slots.items + 1) (listed self.old.slots.items)
+            (changes.change change)) ≤ 500_000 }
+        ensures listed { listed self.new.slots.items ≡
+            histories.after (length self.old.slots.items + 1) (listed self.old.slots.items)
+            (changes.change change) }
         ensures len { vec_len self.new.slots ≡ vec_len self.old.slots + 1 }
         ensures capacity { vec_capacity self.new.slots ≡ vec_capacity self.old.slots }
     {
@@ -50,22 +55,25 @@ impl Table {
         }
     }
 
-    /// A version that adds a filter.
+    // A version that adds a filter.
     fn add(&mut self, filter: Filter)
         requires room { vec_len self.old.slots < vec_capacity self.old.slots }
-        requires small { histories.live_size (listed self.old.slots.items ++ named (length self.old.slots.items + 1) filter ∷ []) ≤ 500_000 }
-        ensures listed { listed self.new.slots.items ≡ listed self.old.slots.items ++ named (length self.old.slots.items + 1) filter ∷ [] }
+        requires small { histories.live_size (listed self.old.slots.items ++
+            named (length self.old.slots.items + 1) filter ∷ []) ≤ 500_000 }
+        ensures listed { listed self.new.slots.items ≡ listed self.old.slots.items ++
+            named (length self.old.slots.items + 1) filter ∷ [] }
         ensures len { vec_len self.new.slots ≡ vec_len self.old.slots + 1 }
         ensures capacity { vec_capacity self.new.slots ≡ vec_capacity self.old.slots }
     {
         self.push(Some(filter));
     }
 
-    /// A version that takes a live filter away.
+    // A version that takes a live filter away.
     fn remove(&mut self, id: u32)
         requires room { vec_len self.old.slots < vec_capacity self.old.slots }
         requires live { histories.IsLive id (listed self.old.slots.items) }
-        ensures listed { listed self.new.slots.items ≡ kept (histories.Drops 0 id) (listed self.old.slots.items) }
+        ensures listed { listed self.new.slots.items ≡
+            kept (histories.Drops 0 id) (listed self.old.slots.items) }
         ensures len { vec_len self.new.slots ≡ vec_len self.old.slots + 1 }
         ensures capacity { vec_capacity self.new.slots ≡ vec_capacity self.old.slots }
     {
@@ -73,12 +81,15 @@ impl Table {
         self.push(None);
     }
 
-    /// A version that gives a live id another filter.
+    // A version that gives a live id another filter.
     fn replace(&mut self, id: u32, filter: Filter)
         requires room { vec_len self.old.slots < vec_capacity self.old.slots }
         requires live { histories.IsLive id (listed self.old.slots.items) }
-        requires small { histories.live_size (kept (histories.Replaces 0 id (whole.filter filter)) (listed self.old.slots.items)) ≤ 500_000 }
-        ensures listed { listed self.new.slots.items ≡ kept (histories.Replaces 0 id (whole.filter filter)) (listed self.old.slots.items) }
+        requires small { histories.live_size
+            (kept (histories.Replaces 0 id (whole.filter filter)) (listed self.old.slots.items)) ≤
+            500_000 }
+        ensures listed { listed self.new.slots.items ≡
+            kept (histories.Replaces 0 id (whole.filter filter)) (listed self.old.slots.items) }
         ensures len { vec_len self.new.slots ≡ vec_len self.old.slots + 1 }
         ensures capacity { vec_capacity self.new.slots ≡ vec_capacity self.old.slots }
     {
@@ -114,8 +125,10 @@ impl Table {
 
     /// The live filter of an id.
     pub(crate) fn filter_of(&self, id: u32) -> Option<&Filter>
-        ensures found { option_map (λ filter. named id filter.now) result ≡ find (is_of id) (listed self.now.slots.items) }
-        ensures small { IfSome result (λ filter. histories.size (whole.filter filter.now) ≤ 500_000) }
+        ensures found { option_map (λ filter. named id filter.now) result ≡
+            find (is_of id) (listed self.now.slots.items) }
+        ensures small { IfSome result (λ filter. histories.size (whole.filter filter.now) ≤
+            500_000) }
     {
         if id == 0 {
             return None;
@@ -127,7 +140,7 @@ impl Table {
     }
 }
 
-/// How many states a slot's filter takes.
+// How many states a slot's filter takes.
 fn size_of_slot(slot: &Option<Filter>) -> u32
     requires { slot_size slot.now < 2 ^ 32 }
     ensures { result ≡ slot_size slot.now }

@@ -81,7 +81,7 @@ pub enum Route<'a> {
     Whole(Items<Step>, &'a [Placed<'a>]),
 }
 
-/// The separator that comes, as the axis that it stands for.
+// The separator that comes, as the axis that it stands for.
 fn separator<'a>(tokens: &'a [Placed<'a>]) -> Option<(Axis, &'a [Placed<'a>])>
     ensures { TakesSeparator (all_placed tokens.now) result }
 {
@@ -95,7 +95,7 @@ fn separator<'a>(tokens: &'a [Placed<'a>]) -> Option<(Axis, &'a [Placed<'a>])>
     }
 }
 
-/// What stands behind an `or`, if one comes.
+// What stands behind an `or`, if one comes.
 fn behind_or<'a>(tokens: &'a [Placed<'a>]) -> Option<&'a [Placed<'a>]>
     ensures { TakesOr (all_placed tokens.now) result }
 {
@@ -108,7 +108,7 @@ fn behind_or<'a>(tokens: &'a [Placed<'a>]) -> Option<&'a [Placed<'a>]>
     }
 }
 
-/// What stands behind an `and`, if one comes.
+// What stands behind an `and`, if one comes.
 fn behind_and<'a>(tokens: &'a [Placed<'a>]) -> Option<&'a [Placed<'a>]>
     ensures { TakesAnd (all_placed tokens.now) result }
 {
@@ -121,7 +121,7 @@ fn behind_and<'a>(tokens: &'a [Placed<'a>]) -> Option<&'a [Placed<'a>]>
     }
 }
 
-/// What stands behind the closing bracket, if it comes.
+// What stands behind the closing bracket, if it comes.
 fn behind_closer<'a>(bracket: Bracket, tokens: &'a [Placed<'a>]) -> Option<&'a [Placed<'a>]>
     ensures { TakesCloser bracket (all_placed tokens.now) result }
 {
@@ -135,7 +135,7 @@ fn behind_closer<'a>(bracket: Bracket, tokens: &'a [Placed<'a>]) -> Option<&'a [
     }
 }
 
-/// What may still be opened and what stands behind a square bracket, if one comes.
+// What may still be opened and what stands behind a square bracket, if one comes.
 fn open_square<'a>(
     spare: u32,
     tokens: &'a [Placed<'a>],
@@ -154,7 +154,7 @@ fn open_square<'a>(
     }
 }
 
-/// The name test of an attribute.
+// The name test of an attribute.
 fn attribute<'a>(
     alloc: Global,
     tokens: &'a [Placed<'a>],
@@ -171,7 +171,7 @@ fn attribute<'a>(
     }
 }
 
-/// What stands behind the brackets of `text()`.
+// What stands behind the brackets of `text()`.
 fn behind_call<'a>(tokens: &'a [Placed<'a>]) -> Result<&'a [Placed<'a>], Stop<'a>>
     ensures { TakesCall (all_placed tokens.now) result }
 {
@@ -187,7 +187,7 @@ fn behind_call<'a>(tokens: &'a [Placed<'a>]) -> Result<&'a [Placed<'a>], Stop<'a
     }
 }
 
-/// What a step looks for.
+// What a step looks for.
 fn test<'a>(alloc: Global, tokens: &'a [Placed<'a>]) -> Result<Found<'a>, Stop<'a>>
     ensures { FindsTest (all_placed tokens.now) result }
 {
@@ -209,7 +209,7 @@ fn test<'a>(alloc: Global, tokens: &'a [Placed<'a>]) -> Result<Found<'a>, Stop<'
     }
 }
 
-/// What may still be opened and what stands behind the bracket of `not(`.
+// What may still be opened and what stands behind the bracket of `not(`.
 fn open_round<'a>(spare: u32, tokens: &'a [Placed<'a>]) -> Result<(u32, &'a [Placed<'a>]), Stop<'a>>
     ensures { OpensRound spare (all_placed tokens.now) result }
 {
@@ -225,7 +225,7 @@ fn open_round<'a>(spare: u32, tokens: &'a [Placed<'a>]) -> Result<(u32, &'a [Pla
     }
 }
 
-/// What a condition without `and` and `or` begins with.
+// What a condition without `and` and `or` begins with.
 fn condition_head<'a>(spare: u32, tokens: &'a [Placed<'a>]) -> Result<Head<'a>, Stop<'a>>
     ensures { BeginsUnary spare (all_placed tokens.now) result }
 {
@@ -249,7 +249,7 @@ fn condition_head<'a>(spare: u32, tokens: &'a [Placed<'a>]) -> Result<Head<'a>, 
     }
 }
 
-/// The relation that comes, if one does.
+// The relation that comes, if one does.
 fn relation<'a>(tokens: &'a [Placed<'a>]) -> Option<(Relation, &'a [Placed<'a>])>
     ensures { TakesRelation (all_placed tokens.now) result }
 {
@@ -262,14 +262,14 @@ fn relation<'a>(tokens: &'a [Placed<'a>]) -> Option<(Relation, &'a [Placed<'a>])
     }
 }
 
-/// Whether a literal may stand behind the relation.
+// Whether a literal may stand behind the relation.
 fn is_equality(relation: Relation) -> bool
     ensures { result ≡ grammar.is_equality relation }
 {
     matches!(relation, Relation::Equal | Relation::NotEqual)
 }
 
-/// The number of the digits, if there are at most 18 on each side of the point.
+// The number of the digits, if there are at most 18 on each side of the point.
 fn decimal(is_negative: bool, numeral: &Numeral<'_>) -> Option<Decimal>
     ensures { NumberOf is_negative numeral.now.whole.now numeral.now.fraction.now result }
 {
@@ -279,7 +279,7 @@ fn decimal(is_negative: bool, numeral: &Numeral<'_>) -> Option<Decimal>
     Some(Decimal::of_digits(is_negative, numeral.whole, numeral.fraction))
 }
 
-/// The number behind a minus.
+// The number behind a minus.
 fn negative<'a>(
     relation: Relation,
     tokens: &'a [Placed<'a>],
@@ -298,7 +298,7 @@ fn negative<'a>(
     }
 }
 
-/// What stands behind a relation: a literal or a number.
+// What stands behind a relation: a literal or a number.
 fn operand<'a>(
     alloc: Global,
     relation: Relation,
@@ -325,7 +325,7 @@ fn operand<'a>(
     }
 }
 
-/// A path, and the comparison behind it where there is one.
+// A path, and the comparison behind it where there is one.
 fn comparison<'a>(
     alloc: Global,
     path: Path,
@@ -342,7 +342,7 @@ fn comparison<'a>(
     }
 }
 
-/// The condition, or where it is negated one that holds where it does not.
+// The condition, or where it is negated one that holds where it does not.
 #[tactic(auto, using(crate::proofs::FilterViews::views))]
 fn negated_if(alloc: Global, is_negated: bool, condition: Cond) -> Result<Cond, AllocError>
     ensures { IfOk result (λ c. view c ≡ reads.negated_if is_negated (view condition)) }
@@ -354,7 +354,7 @@ fn negated_if(alloc: Global, is_negated: bool, condition: Cond) -> Result<Cond, 
     }
 }
 
-/// A condition that holds where all members do. One member stands for itself.
+// A condition that holds where all members do. One member stands for itself.
 fn conjunction(members: Items<Cond>) -> Cond
     ensures { view result ≡ reads.each_of (conditions members) }
 {
@@ -368,7 +368,7 @@ fn conjunction(members: Items<Cond>) -> Cond
     }
 }
 
-/// A condition that holds where some member does. One member stands for itself.
+// A condition that holds where some member does. One member stands for itself.
 fn disjunction(members: Items<Cond>) -> Cond
     ensures { view result ≡ reads.some_of (conditions members) }
 {
@@ -382,30 +382,32 @@ fn disjunction(members: Items<Cond>) -> Cond
     }
 }
 
-/// The conditions, and one more behind them.
+// The conditions, and one more behind them.
 fn with_condition(done: Items<Cond>, condition: Cond) -> Result<Items<Cond>, AllocError>
-    ensures { IfOk result (λ all. (more : Conditions) → conditions_onto all more ≡ conditions_onto done (CondThen (view condition) more)) }
+    ensures { IfOk result (λ all. (more : Conditions) →
+        conditions_onto all more ≡ conditions_onto done (CondThen (view condition) more)) }
 {
     let mut all = done;
     all.push(condition)?;
     Ok(all)
 }
 
-/// The steps, and one more behind them.
+// The steps, and one more behind them.
 fn with_step(
     done: Items<Step>,
     axis: Axis,
     test: Test,
     conds: Items<Cond>,
 ) -> Result<Items<Step>, AllocError>
-    ensures { IfOk result (λ all. (onward : Way) → ways_onto all onward ≡ ways_onto done (StepThen axis test (conditions conds) onward)) }
+    ensures { IfOk result (λ all. (onward : Way) →
+        ways_onto all onward ≡ ways_onto done (StepThen axis test (conditions conds) onward)) }
 {
     let mut all = done;
     all.push(Step { axis, test, conds })?;
     Ok(all)
 }
 
-/// The path of these steps.
+// The path of these steps.
 #[tactic(auto, using(crate::proofs::FilterViews::views))]
 fn path_of(steps: Items<Step>) -> Path
     ensures { way result ≡ ways steps }
@@ -413,7 +415,7 @@ fn path_of(steps: Items<Step>) -> Path
     Path { steps }
 }
 
-/// A condition without `and` and `or`.
+// A condition without `and` and `or`.
 #[cycle(parser)]
 fn unary<'a>(
     alloc: Global,
@@ -434,7 +436,7 @@ fn unary<'a>(
     }
 }
 
-/// One more of the conditions between which `and` stands, behind those that are done.
+// One more of the conditions between which `and` stands, behind those that are done.
 #[cycle(parser)]
 fn and_member<'a>(
     alloc: Global,
@@ -452,7 +454,7 @@ fn and_member<'a>(
     }
 }
 
-/// The conditions between which `and` stands.
+// The conditions between which `and` stands.
 #[cycle(parser)]
 fn ands<'a>(
     alloc: Global,
@@ -470,7 +472,7 @@ fn ands<'a>(
     }
 }
 
-/// One more of the conditions between which `or` stands, behind those that are done.
+// One more of the conditions between which `or` stands, behind those that are done.
 #[cycle(parser)]
 fn or_member<'a>(
     alloc: Global,
@@ -488,7 +490,7 @@ fn or_member<'a>(
     }
 }
 
-/// The conditions between which `or` stands.
+// The conditions between which `or` stands.
 #[cycle(parser)]
 fn ors<'a>(
     alloc: Global,
@@ -506,7 +508,7 @@ fn ors<'a>(
     }
 }
 
-/// A condition and the bracket that closes behind it.
+// A condition and the bracket that closes behind it.
 #[cycle(parser)]
 fn closed<'a>(
     alloc: Global,
@@ -523,7 +525,7 @@ fn closed<'a>(
     }
 }
 
-/// One more condition of a step, behind those that are done.
+// One more condition of a step, behind those that are done.
 #[cycle(parser)]
 fn predicate<'a>(
     alloc: Global,
@@ -542,7 +544,7 @@ fn predicate<'a>(
     }
 }
 
-/// The conditions of a step.
+// The conditions of a step.
 #[cycle(parser)]
 fn predicates<'a>(
     alloc: Global,
@@ -560,7 +562,7 @@ fn predicates<'a>(
     }
 }
 
-/// One more step of a path, behind those that are done.
+// One more step of a path, behind those that are done.
 #[cycle(parser)]
 fn next_step<'a>(
     alloc: Global,
@@ -587,7 +589,7 @@ fn next_step<'a>(
     }
 }
 
-/// The steps of a path, the first along this axis.
+// The steps of a path, the first along this axis.
 #[cycle(parser)]
 fn steps<'a>(
     alloc: Global,

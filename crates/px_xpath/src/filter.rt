@@ -71,8 +71,8 @@ pub enum Cond {
     Not(Boxed<Cond>),
 }
 
-/// A filter: each path in it has a step, each `and` and `or` two members, and a literal only an equality before it.
-/// Its path is shared by all that were made of it with `share`.
+/// A filter: each path in it has a step, each `and` and `or` two members, and a literal only an
+/// equality before it. Its path is shared by all that were made of it with `share`.
 #[derive(Drop)]
 pub struct Filter {
     pub path: Arc<Path>,

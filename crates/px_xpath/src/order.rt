@@ -1,4 +1,5 @@
-//! When two axes, tests, relations or values are equal or tied in their order: where they are the same.
+//! When two axes, tests, relations or values are equal or tied in their order: where they are the
+//! same.
 
 ghost use Rattle.std.specs.Prelude.{◌≡◌};
 ghost use Rattle.std.specs.Bool.{Decides};
@@ -15,6 +16,7 @@ pub fn equal_is_same()
     ensures values { (a b : Value) → Decides (⟦<Value as PartialEq>⟧.eq a b) (a ≡ b) }
     ensures tied_axes { (a b : Axis) → Decides (is_eq (⟦<Axis as Ord>⟧.cmp a b)) (a ≡ b) }
     ensures tied_tests { (a b : Test) → Decides (is_eq (⟦<Test as Ord>⟧.cmp a b)) (a ≡ b) }
-    ensures tied_relations { (a b : Relation) → Decides (is_eq (⟦<Relation as Ord>⟧.cmp a b)) (a ≡ b) }
+    ensures tied_relations { (a b : Relation) →
+        Decides (is_eq (⟦<Relation as Ord>⟧.cmp a b)) (a ≡ b) }
     ensures tied_values { (a b : Value) → Decides (is_eq (⟦<Value as Ord>⟧.cmp a b)) (a ≡ b) }
 {}

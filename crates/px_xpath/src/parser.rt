@@ -19,7 +19,8 @@ const MOST_BYTES: usize = 4096;
 /// The filter that a text writes. A text that writes none is refused for the first fault in it;
 /// want of memory is an error of its own. Nothing stays behind an error.
 pub fn parse(alloc: Global, text: &[u8]) -> Result<Filter, ParseFault>
-    ensures { MatchResult result (λ found. IsText text.now (filter found)) (λ fault. IsRefused text.now fault) }
+    ensures { MatchResult result (λ found. IsText text.now (filter found))
+        (λ fault. IsRefused text.now fault) }
 {
     if text.len() > MOST_BYTES {
         return Err(ParseFault::Filter(FilterFault::TooLong));
@@ -31,7 +32,7 @@ pub fn parse(alloc: Global, text: &[u8]) -> Result<Filter, ParseFault>
     }
 }
 
-/// The place of the first of these tokens, or the text's end where there is none.
+// The place of the first of these tokens, or the text's end where there is none.
 fn place(end: u32, tokens: &[Placed<'_>]) -> u32
     ensures { result ≡ place_of end (all_placed tokens.now) }
 {
@@ -41,7 +42,7 @@ fn place(end: u32, tokens: &[Placed<'_>]) -> u32
     }
 }
 
-/// The fault of a text that stops the parse so.
+// The fault of a text that stops the parse so.
 fn refusal(end: u32, stop: Stop<'_>) -> ParseFault
     ensures { result ≡ fault_of end stop.entry }
 {
@@ -63,7 +64,7 @@ mod tests {
     use super::*;
     use std::test::Fail;
 
-    /// The fault of a text, or none where it is a filter.
+    // The fault of a text, or none where it is a filter.
     fn fault(alloc: Global, text: &[u8]) -> Result<Option<FilterFault>, ParseFault> {
         match parse(alloc, text) {
             Ok(_) => Ok(None),

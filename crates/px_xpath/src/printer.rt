@@ -27,10 +27,11 @@ pub fn print(alloc: Global, filter: &Filter) -> Result<Bytes, AllocError>
     Ok(Bytes::from_vec(out))
 }
 
-/// Steps, each behind its axis.
+// Steps, each behind its axis.
 #[cycle(printing)]
 fn write_steps(steps: &[Step], out: &mut Vec<u8>) -> Result<(), AllocError>
-    ensures { OnOk result (out.new.items ≡ out.old.items ++ printed.printed_steps (ways steps.now)) }
+    ensures { OnOk result (out.new.items ≡ out.old.items ++
+        printed.printed_steps (ways steps.now)) }
 {
     match steps {
         [] => Ok(()),
@@ -42,7 +43,7 @@ fn write_steps(steps: &[Step], out: &mut Vec<u8>) -> Result<(), AllocError>
     }
 }
 
-/// A path inside a condition.
+// A path inside a condition.
 #[cycle(printing)]
 fn write_path(steps: &[Step], out: &mut Vec<u8>) -> Result<(), AllocError>
     ensures { OnOk result (out.new.items ≡ out.old.items ++ printed.printed_path (ways steps.now)) }
@@ -57,10 +58,11 @@ fn write_path(steps: &[Step], out: &mut Vec<u8>) -> Result<(), AllocError>
     }
 }
 
-/// A step's test and conditions.
+// A step's test and conditions.
 #[cycle(printing)]
 fn write_step(step: &Step, out: &mut Vec<u8>) -> Result<(), AllocError>
-    ensures { OnOk result (out.new.items ≡ out.old.items ++ (printed.printed_test step.now.test ++ printed.printed_preds (conditions step.now.conds))) }
+    ensures { OnOk result (out.new.items ≡ out.old.items ++ (printed.printed_test step.now.test ++
+        printed.printed_preds (conditions step.now.conds))) }
 {
     write_test(&step.test, out)?;
     write_preds(step.conds.as_slice(), out)
@@ -68,7 +70,8 @@ fn write_step(step: &Step, out: &mut Vec<u8>) -> Result<(), AllocError>
 
 #[cycle(printing)]
 fn write_preds(conds: &[Cond], out: &mut Vec<u8>) -> Result<(), AllocError>
-    ensures { OnOk result (out.new.items ≡ out.old.items ++ printed.printed_preds (conditions conds.now)) }
+    ensures { OnOk result (out.new.items ≡ out.old.items ++
+        printed.printed_preds (conditions conds.now)) }
 {
     match conds {
         [] => Ok(()),
@@ -83,7 +86,8 @@ fn write_preds(conds: &[Cond], out: &mut Vec<u8>) -> Result<(), AllocError>
 
 #[cycle(printing)]
 fn write_condition(cond: &Cond, out: &mut Vec<u8>) -> Result<(), AllocError>
-    ensures { OnOk result (out.new.items ≡ out.old.items ++ printed.printed_condition (condition cond.now)) }
+    ensures { OnOk result (out.new.items ≡ out.old.items ++
+        printed.printed_condition (condition cond.now)) }
 {
     match cond {
         Cond::Exists(path) => write_path(path.steps.as_slice(), out),
@@ -106,7 +110,8 @@ fn write_compared(
     value: &Value,
     out: &mut Vec<u8>,
 ) -> Result<(), AllocError>
-    ensures { OnOk result (out.new.items ≡ out.old.items ++ printed.printed_condition (Compares (ways steps.now) relation value.now)) }
+    ensures { OnOk result (out.new.items ≡ out.old.items ++
+        printed.printed_condition (Compares (ways steps.now) relation value.now)) }
 {
     write_path(steps, out)?;
     write_comparison(relation, value, out)
@@ -114,7 +119,8 @@ fn write_compared(
 
 #[cycle(printing)]
 fn write_negation(cond: &Cond, out: &mut Vec<u8>) -> Result<(), AllocError>
-    ensures { OnOk result (out.new.items ≡ out.old.items ++ printed.printed_condition (Fails (condition cond.now))) }
+    ensures { OnOk result (out.new.items ≡ out.old.items ++
+        printed.printed_condition (Fails (condition cond.now))) }
 {
     out.extend_from_slice(b"not(")?;
     write_condition(cond, out)?;
@@ -122,10 +128,11 @@ fn write_negation(cond: &Cond, out: &mut Vec<u8>) -> Result<(), AllocError>
     Ok(())
 }
 
-/// Members, with the word between each two.
+// Members, with the word between each two.
 #[cycle(printing)]
 fn write_members(joint: Joint, conds: &[Cond], out: &mut Vec<u8>) -> Result<(), AllocError>
-    ensures { OnOk result (out.new.items ≡ out.old.items ++ printed.printed_members joint (conditions conds.now)) }
+    ensures { OnOk result (out.new.items ≡ out.old.items ++
+        printed.printed_members joint (conditions conds.now)) }
 {
     match conds {
         [] => Ok(()),
@@ -136,10 +143,11 @@ fn write_members(joint: Joint, conds: &[Cond], out: &mut Vec<u8>) -> Result<(), 
     }
 }
 
-/// Members, each behind the word.
+// Members, each behind the word.
 #[cycle(printing)]
 fn write_more(joint: Joint, conds: &[Cond], out: &mut Vec<u8>) -> Result<(), AllocError>
-    ensures { OnOk result (out.new.items ≡ out.old.items ++ printed.printed_more joint (conditions conds.now)) }
+    ensures { OnOk result (out.new.items ≡ out.old.items ++
+        printed.printed_more joint (conditions conds.now)) }
 {
     match conds {
         [] => Ok(()),
@@ -153,7 +161,9 @@ fn write_more(joint: Joint, conds: &[Cond], out: &mut Vec<u8>) -> Result<(), All
 
 #[cycle(printing)]
 fn write_member(joint: Joint, cond: &Cond, out: &mut Vec<u8>) -> Result<(), AllocError>
-    ensures { OnOk result (out.new.items ≡ out.old.items ++ printed.in_brackets_if (printed.stands_bracketed joint (condition cond.now)) (printed.printed_condition (condition cond.now))) }
+    ensures { OnOk result (out.new.items ≡ out.old.items ++
+        printed.in_brackets_if (printed.stands_bracketed joint (condition cond.now))
+        (printed.printed_condition (condition cond.now))) }
 {
     if stands_bracketed(joint, cond) {
         out.push(b'(')?;
@@ -234,7 +244,8 @@ fn write_test(test: &Test, out: &mut Vec<u8>) -> Result<(), AllocError>
 }
 
 fn write_comparison(relation: Relation, value: &Value, out: &mut Vec<u8>) -> Result<(), AllocError>
-    ensures { OnOk result (out.new.items ≡ out.old.items ++ (printed.printed_relation relation ++ printed.printed_value value.now)) }
+    ensures { OnOk result (out.new.items ≡ out.old.items ++ (printed.printed_relation relation ++
+        printed.printed_value value.now)) }
 {
     out.extend_from_slice(relation_text(relation))?;
     match value {
@@ -253,7 +264,7 @@ fn write_literal(text: &[u8], out: &mut Vec<u8>) -> Result<(), AllocError>
     Ok(())
 }
 
-/// The quote that a literal is printed in: a double one, unless the literal contains it.
+// The quote that a literal is printed in: a double one, unless the literal contains it.
 fn quote_of(text: &[u8]) -> u8
     ensures { result ≡ printed.quote_of text.now }
 {

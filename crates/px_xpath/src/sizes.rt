@@ -8,14 +8,15 @@ ghost use Rattle.px_xpath.specs.Whole as whole;
 
 use crate::filter::{Cond, Filter, Step};
 
-/// The number of the filter's states, each occurrence counted, or 4,294,967,295 where there are more.
+/// The number of the filter's states, each occurrence counted, or 4,294,967,295 where there are
+/// more.
 pub fn size(filter: &Filter) -> u32
     ensures { result ≡ min (size.size (whole.filter filter.now)) u32.MAX }
 {
     way_size(filter.path.steps.as_slice(), 0)
 }
 
-/// The states of a path whose end takes 0 or 1.
+// The states of a path whose end takes 0 or 1.
 #[cycle(sizing)]
 fn way_size(steps: &[Step], end: u32) -> u32
     requires { end ≤ 1 }
@@ -53,16 +54,17 @@ fn condition_size(cond: &Cond) -> u32
     }
 }
 
-/// The state of a step, and the one that joins its parts.
+// The state of a step, and the one that joins its parts.
 #[tactic(auto, using(crate::proofs::FilterViews::views, crate::proofs::Weights::conditions_counted))]
 fn step_size(conds: &[Cond], onward: &[Step], end: u32) -> u32
     requires { end ≤ 1 }
-    ensures { result ≡ size.joint (size.count_of (conditions conds.now) + size.parts_behind (ways onward.now) end) + 1 }
+    ensures { result ≡ size.joint (size.count_of (conditions conds.now) + size.parts_behind
+        (ways onward.now) end) + 1 }
 {
     joint(conds.len(), parts_behind(onward, end)) + 1
 }
 
-/// The parts of a step behind its conditions.
+// The parts of a step behind its conditions.
 fn parts_behind(onward: &[Step], end: u32) -> u32
     requires { end ≤ 1 }
     ensures value { result ≡ size.parts_behind (ways onward.now) end }
@@ -74,7 +76,7 @@ fn parts_behind(onward: &[Step], end: u32) -> u32
     }
 }
 
-/// The state that joins several parts: those that are conditions, and those behind them.
+// The state that joins several parts: those that are conditions, and those behind them.
 fn joint(conds: usize, behind: u32) -> u32
     requires { behind ≤ 1 }
     ensures value { result ≡ size.joint (conds + behind) }

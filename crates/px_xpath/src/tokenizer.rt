@@ -12,21 +12,21 @@ use crate::token::{Numeral, Placed, Sized, Token};
 use px_text::{begins_part, continues_part, is_digit, is_white};
 use std::alloc::{AllocError, Global};
 
-/// How many digits stand at the front.
+// How many digits stand at the front.
 fn digit_count(text: &[u8]) -> usize
     ensures { result ≡ length (take_while names.is_digit text.now) }
 {
     text.iter().take_while(|byte| is_digit(**byte)).count()
 }
 
-/// How many bytes of white space stand at the front.
+// How many bytes of white space stand at the front.
 fn white_count(text: &[u8]) -> usize
     ensures { result ≡ length (take_while names.is_white text.now) }
 {
     text.iter().take_while(|byte| is_white(**byte)).count()
 }
 
-/// What is left behind the white space at the front.
+// What is left behind the white space at the front.
 fn behind_white(text: &[u8]) -> &[u8]
     ensures same { result.now ≡ numbers.past names.is_white text.now }
     ensures within { length result.now ≤ length text.now }
@@ -35,7 +35,7 @@ fn behind_white(text: &[u8]) -> &[u8]
     &text[count..]
 }
 
-/// How many bytes at the front go on with a name.
+// How many bytes at the front go on with a name.
 fn name_count(text: &[u8]) -> usize
     ensures { result ≡ length (take_while names.continues_part text.now) }
 {
@@ -44,14 +44,14 @@ fn name_count(text: &[u8]) -> usize
         .count()
 }
 
-/// How many bytes stand before the first quote.
+// How many bytes stand before the first quote.
 fn unquoted_count(quote: u8, text: &[u8]) -> usize
     ensures { result ≡ length (take_while (λ byte. not (byte == quote)) text.now) }
 {
     text.iter().take_while(|byte| !(**byte == quote)).count()
 }
 
-/// The digits at the front.
+// The digits at the front.
 fn digits(text: &[u8]) -> &[u8]
     ensures same { result.now ≡ take_while names.is_digit text.now }
     ensures digits { IsTrue (list_all names.is_digit result.now) }
@@ -71,7 +71,7 @@ fn starts_with_byte(byte: u8, text: &[u8]) -> bool
     }
 }
 
-/// What is left behind the first byte.
+// What is left behind the first byte.
 fn behind_first(text: &[u8]) -> &[u8]
     ensures { result.now ≡ drop 1 text.now }
 {
@@ -81,7 +81,7 @@ fn behind_first(text: &[u8]) -> &[u8]
     }
 }
 
-/// The number at the front, which has no bytes where there is none.
+// The number at the front, which has no bytes where there is none.
 fn number_at<'a>(text: &'a [u8]) -> Sized<'a>
     ensures same { sized result ≡ tokens.number_at text.now }
     ensures within { result.bytes ≤ length text.now }
@@ -104,7 +104,7 @@ fn number_at<'a>(text: &'a [u8]) -> Sized<'a>
     }
 }
 
-/// The part of a name at the front.
+// The part of a name at the front.
 fn part(text: &[u8]) -> &[u8]
     ensures same { result.now ≡ tokens.part text.now }
     ensures within { length result.now ≤ length text.now }
@@ -121,7 +121,7 @@ fn part(text: &[u8]) -> &[u8]
     }
 }
 
-/// The longest name at the front: a part, or two parts joined by a colon.
+// The longest name at the front: a part, or two parts joined by a colon.
 fn name_at(text: &[u8]) -> &[u8]
     ensures same { result.now ≡ tokens.name_at text.now }
     ensures within { length result.now ≤ length text.now }
@@ -141,7 +141,7 @@ fn name_at(text: &[u8]) -> &[u8]
     &text[..first.len() + 1 + second.len()]
 }
 
-/// A quoted text up to its second quote, where it has one.
+// A quoted text up to its second quote, where it has one.
 fn quoted_at<'a>(quote: u8, rest: &'a [u8]) -> Sized<'a>
     ensures same { sized result ≡ tokens.quoted_at quote rest.now }
     ensures within { result.bytes ≤ length rest.now + 1 }
@@ -160,9 +160,10 @@ fn quoted_at<'a>(quote: u8, rest: &'a [u8]) -> Sized<'a>
     }
 }
 
-/// A token of one byte, or another of two where this byte stands behind it.
+// A token of one byte, or another of two where this byte stands behind it.
 fn one_or_two<'a>(short: Token<'a>, byte: u8, long: Token<'a>, rest: &'a [u8]) -> Sized<'a>
-    ensures same { sized result ≡ tokens.one_or_two (view short.entry) byte (view long.entry) rest.now }
+    ensures same { sized result ≡ tokens.one_or_two (view short.entry) byte (view long.entry)
+        rest.now }
     ensures within { result.bytes ≤ length rest.now + 1 }
 {
     if starts_with_byte(byte, rest) {
@@ -178,8 +179,8 @@ fn one_or_two<'a>(short: Token<'a>, byte: u8, long: Token<'a>, rest: &'a [u8]) -
     }
 }
 
-/// What a word is: an operator behind a whole operand, a function before a bracket, and else a
-/// name test.
+// What a word is: an operator behind a whole operand, a function before a bracket, and else a
+// name test.
 fn word<'a>(is_behind_operand: bool, is_before_bracket: bool, name: &'a [u8]) -> Token<'a>
     ensures { view result ≡ tokens.word is_behind_operand is_before_bracket name.now }
 {
@@ -204,7 +205,7 @@ fn word<'a>(is_behind_operand: bool, is_before_bracket: bool, name: &'a [u8]) ->
     }
 }
 
-/// The word at the front, or a byte that no filter has there.
+// The word at the front, or a byte that no filter has there.
 fn word_at<'a>(is_behind_operand: bool, text: &'a [u8]) -> Sized<'a>
     ensures same { sized result ≡ tokens.word_at is_behind_operand text.now }
     ensures within { result.bytes ≤ length text.now + 1 }
@@ -225,7 +226,7 @@ fn word_at<'a>(is_behind_operand: bool, text: &'a [u8]) -> Sized<'a>
     }
 }
 
-/// The token at the front of a text that begins with no white space.
+// The token at the front of a text that begins with no white space.
 fn token_at<'a>(is_behind_operand: bool, text: &'a [u8]) -> Sized<'a>
     ensures same { sized result ≡ tokens.token_at is_behind_operand text.now }
     ensures within { 0 < length text.now → result.bytes ≤ length text.now }
@@ -279,7 +280,7 @@ fn token_at<'a>(is_behind_operand: bool, text: &'a [u8]) -> Sized<'a>
     Sized { token, bytes: 1 }
 }
 
-/// Whether a condition, a path or a value may end with this token.
+// Whether a condition, a path or a value may end with this token.
 fn ends_operand(token: &Token<'_>) -> bool
     ensures { result ≡ tokens.ends_operand (view token.now) }
 {
@@ -294,15 +295,15 @@ fn ends_operand(token: &Token<'_>) -> bool
     )
 }
 
-/// What is left of a text behind so many bytes.
+// What is left of a text behind so many bytes.
 fn behind(text: &[u8], bytes: usize) -> &[u8]
     ensures { result.now ≡ drop bytes text.now }
 {
     text.get(bytes..).unwrap_or(&text[..0])
 }
 
-/// The token behind the white space at the front, and what is left behind it. None where only white
-/// space is left.
+// The token behind the white space at the front, and what is left behind it. None where only white
+// space is left.
 fn next_token<'a>(
     place: usize,
     is_behind_operand: bool,

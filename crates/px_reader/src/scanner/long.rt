@@ -19,8 +19,9 @@ impl Scanner {
     ghost use Rattle.px_reader.specs.Scanned.{IsWithin, run_of, line_to};
     ghost use Rattle.px_reader.specs.Scanning.{state_in, JudgesLine, TakesLine, BeginsRun};
 
-    /// Judges the line between two places of the piece, with its end where it has one, and takes it. At a fault
-    /// the line brings nothing, and the scanner is of no more use until it is cleared.
+    /// Judges the line between two places of the piece, with its end where it has one, and takes
+    /// it. At a fault the line brings nothing, and the scanner is of no more use until it is
+    /// cleared.
     pub fn judge(&mut self, piece: &[u8], at: usize, end: usize) -> Result<Told, LineFault>
         requires run { IsWithin piece.now self.old.run }
         requires value { IsWithin piece.now self.old.value }
@@ -40,7 +41,7 @@ impl Scanner {
         self.take(piece, content)
     }
 
-    /// Takes a line without its end.
+    // Takes a line without its end.
     fn take(&mut self, piece: &[u8], line: &[u8]) -> Result<Told, LineFault>
         requires run { IsWithin piece.now self.old.run }
         requires value { IsWithin piece.now self.old.value }
@@ -67,7 +68,7 @@ impl Scanner {
         }
     }
 
-    /// The first line of an element.
+    // The first line of an element.
     fn open(&mut self, piece: &[u8], name: &[u8]) -> Result<Told, LineFault>
         requires run { IsWithin piece.now self.old.run }
         ensures taken { TakesLine piece.now self.old (named Opens name.now) result self.new }
@@ -93,7 +94,7 @@ impl Scanner {
         })
     }
 
-    /// The last line of an element.
+    // The last line of an element.
     fn close(&mut self, piece: &[u8], name: &[u8]) -> Result<Told, LineFault>
         requires run { IsWithin piece.now self.old.run }
         ensures taken { TakesLine piece.now self.old (named Closes name.now) result self.new }
@@ -117,7 +118,7 @@ impl Scanner {
         })
     }
 
-    /// An attribute of the innermost element.
+    // An attribute of the innermost element.
     fn give(&mut self, piece: &[u8], line: &[u8]) -> Result<Told, LineFault>
         ensures taken { TakesLine piece.now self.old (given_by line.now) result self.new }
         ensures run { self.new.run ≡ self.old.run }
@@ -130,9 +131,10 @@ impl Scanner {
         self.give_named(piece, name, value)
     }
 
-    /// An attribute by its name and by its value with the escapes.
+    // An attribute by its name and by its value with the escapes.
     fn give_named(&mut self, piece: &[u8], name: &[u8], value: &[u8]) -> Result<Told, LineFault>
-        ensures taken { TakesLine piece.now self.old (Gives name.now (unescaped value.now)) result self.new }
+        ensures taken { TakesLine piece.now self.old (Gives name.now (unescaped value.now)) result
+            self.new }
         ensures run { self.new.run ≡ self.old.run }
         ensures value { IsWithin piece.now self.old.value → IsWithin piece.now self.new.value }
     {
@@ -155,7 +157,7 @@ impl Scanner {
         })
     }
 
-    /// A line of text.
+    // A line of text.
     fn say_escaped(&mut self, piece: &[u8], line: &[u8]) -> Result<Told, LineFault>
         requires run { IsWithin piece.now self.old.run }
         ensures taken { TakesLine piece.now self.old (Says (unescaped line.now)) result self.new }
@@ -170,7 +172,7 @@ impl Scanner {
         Ok(Told::nothing())
     }
 
-    /// A line of text outside the root, where only white space may stand.
+    // A line of text outside the root, where only white space may stand.
     fn say_outside(&mut self, piece: &[u8], line: &[u8]) -> Result<Told, LineFault>
         requires outside { is_none self.old.names ≡ true }
         ensures taken { TakesLine piece.now self.old (Says (unescaped line.now)) result self.new }
@@ -186,7 +188,7 @@ impl Scanner {
         Ok(Told::nothing())
     }
 
-    /// A line that is passed by.
+    // A line that is passed by.
     fn pass(&mut self, piece: &[u8]) -> Result<Told, LineFault>
         requires run { IsWithin piece.now self.old.run }
         ensures taken { TakesLine piece.now self.old Passed result self.new }
@@ -203,14 +205,14 @@ impl Scanner {
         })
     }
 
-    /// Whether attributes of the innermost element may come.
+    // Whether attributes of the innermost element may come.
     fn is_giving(&self) -> bool
         ensures { (piece : List ℕ) → result ≡ is_giving (state_in piece self.now) }
     {
         self.phase == Phase::Giving && !self.names.is_empty()
     }
 
-    /// Begins a run of texts, or goes on with the one that is open, apart from the piece.
+    // Begins a run of texts, or goes on with the one that is open, apart from the piece.
     fn begin_run(&mut self, piece: &[u8]) -> Result<(), AllocError>
         requires run { IsWithin piece.now self.old.run }
         ensures ok { OnOk result (BeginsRun piece.now self.old self.new) }

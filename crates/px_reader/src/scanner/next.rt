@@ -12,8 +12,8 @@ use std::alloc::AllocError;
 impl Scanner {
     ghost use Rattle.px_reader.specs.Scanning.{JudgesNext};
 
-    /// Judges the first line that is not taken, where one is there. At a fault it brings nothing, and the scanner
-    /// is of no more use until it is cleared.
+    /// Judges the first line that is not taken, where one is there. At a fault it brings nothing,
+    /// and the scanner is of no more use until it is cleared.
     pub fn judge_next(&mut self, lines: &Lines) -> JudgedLine
         requires line { lines.now.at < length (piece lines.now) }
         requires run { IsWithin (piece lines.now) self.old.run }
@@ -38,7 +38,7 @@ impl Scanner {
         }
     }
 
-    /// Judges the first line the long way.
+    // Judges the first line the long way.
     fn judge_long(&mut self, lines: &Lines) -> JudgedLine
         requires line { lines.now.at < length (piece lines.now) }
         requires run { IsWithin (piece lines.now) self.old.run }

@@ -5,18 +5,18 @@ use px_xpath::{ParseFault, parse};
 use std::alloc::{AllocError, Global};
 use std::test::Fail;
 
-/// Accepts a filter, where the limits allow it.
+// Accepts a filter, where the limits allow it.
 fn add(alloc: Global, journal: &mut Journal, text: &[u8]) -> Result<Option<u32>, ParseFault> {
     let filter = parse(alloc, text)?;
     Ok(accept(journal, Change::Add { who: 0, filter })?)
 }
 
-/// Drops a filter, where it is live.
+// Drops a filter, where it is live.
 fn drop_out(journal: &mut Journal, id: u32) -> Result<Option<u32>, AllocError> {
     accept(journal, Change::Drop { who: 0, id })
 }
 
-/// Accepts a change, where it may come.
+// Accepts a change, where it may come.
 fn accept(journal: &mut Journal, change: Change) -> Result<Option<u32>, AllocError> {
     if journal.refusal(&change).is_some() {
         return Ok(None);
@@ -25,7 +25,7 @@ fn accept(journal: &mut Journal, change: Change) -> Result<Option<u32>, AllocErr
     Ok(Some(journal.append(change)))
 }
 
-/// What would be live behind a drop, where its id is live.
+// What would be live behind a drop, where its id is live.
 fn behind_drop(alloc: Global, journal: &Journal, id: u32) -> Result<Option<Live>, AllocError> {
     let change = Change::Drop { who: 0, id };
     if journal.refusal(&change).is_some() {
@@ -34,7 +34,7 @@ fn behind_drop(alloc: Global, journal: &Journal, id: u32) -> Result<Option<Live>
     Ok(Some(journal.snapshot_after(alloc, &change)?))
 }
 
-/// The id of a list's only filter.
+// The id of a list's only filter.
 fn only_id(live: &Live) -> Option<u32> {
     match live.as_slice() {
         [only] => Some(only.id),
