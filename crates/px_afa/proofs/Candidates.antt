@@ -13,7 +13,8 @@ use Rattle.px_xpath.specs.Meaning.{candidates}
 use Rattle.px_xpath.specs.Meaning as filter
 use Rattle.px_afa.specs.Contents.{ElementKind, AttributeKind, TextKind, Content, Empty, characters, with_attributes, nodes_content, content_of, root_content}
 use Rattle.px_afa.specs.Truth.{meets, some_child}
-use Rattle.px_afa.proofs.Members.{or_assoc, or_false}
+use Rattle.px_afa.proofs.Members.{or_assoc}
+use Rattle.std.proofs.Math.Bool.{or-false}
 
 characters-attributes : (attributes : List Attribute) (content : Content) → characters (with_attributes attributes content) ≡ characters content
 characters-attributes [] content = refl
@@ -73,7 +74,7 @@ members-are asked p (TextThen text behind) =
     ap (λ b. (b && p text Empty) || some_child Child asked p (nodes_content behind)) (meets_text asked text)
     ∙ ap (λ b. passes_at asked p (AtText text) || b) (members-are asked p behind)
 members-are asked p (ElementThen name attributes children behind) =
-    ap (λ b. b || some_child Child asked p (nodes_content behind)) (or_false _ ∙ element-is asked p name attributes children)
+    ap (λ b. b || some_child Child asked p (nodes_content behind)) (or-false _ ∙ element-is asked p name attributes children)
     ∙ ap (λ b. passes_at asked p (AtElement name attributes children) || b) (members-are asked p behind)
 
 below-are : (asked : Test) (p : List ℕ → Content → Bool) (ns : Nodes) → some_child Below asked p (nodes_content ns) ≡ list_any (passes_at asked p) (all_below ns)
@@ -99,9 +100,9 @@ below-are asked p (ElementThen name attributes children behind) =
 pub candidates-are : (axis : Axis) (asked : Test) (p : List ℕ → Content → Bool) (x : Place) →
     some_child axis asked p (content_of x) ≡ list_any (passes_at asked p) (candidates axis x)
 candidates-are Child asked p (AtDocument root) =
-    ap (λ b. b || false) (or_false _ ∙ element-is asked p root.name root.attributes root.children)
+    ap (λ b. b || false) (or-false _ ∙ element-is asked p root.name root.attributes root.children)
 candidates-are Below asked p (AtDocument root) =
-    or_false _
+    or-false _
     ∙ (ap (λ b. b || some_child Below asked p (with_attributes root.attributes (nodes_content root.children))) (element-is asked p root.name root.attributes root.children)
     ∙ ap (λ b. passes_at asked p (AtElement root.name root.attributes root.children) || b)
     (attributes-are Below asked p root.attributes (nodes_content root.children)

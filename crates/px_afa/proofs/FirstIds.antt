@@ -10,6 +10,7 @@ use Rattle.px_afa.specs.Lists.{row, is_key}
 use Rattle.px_afa.specs.Sets.{accept}
 use Rattle.px_text.specs.Sets.{has}
 use Rattle.px_afa.proofs.GuardTables.{newest_get}
+use Rattle.std.proofs.Math.Bool.{or-false}
 
 -- a filter at the end
 accept-end : (firsts : List First) (f : First) (set : List ℕ) → accept (firsts ++ f ∷ []) set ≡ accept firsts set ++ cond (has set f.state) (f.id ∷ []) []
@@ -26,10 +27,6 @@ take_next [] n f d less is = absurd (omega arith)
 take_next (g ∷ firsts) zero f d less is = ap (λ z. z ∷ []) (sym is)
 take_next (g ∷ firsts) (suc n) f d less is = ap (λ rest. g ∷ rest) (take_next firsts n f d (omega arith) is)
 
-or_false : (b : Bool) → (b || false) ≡ b
-or_false true = refl
-or_false false = refl
-
 pub ids_next : (firsts : List First) (n m : ℕ) (f d : First) (old new : List (List ℕ)) → n < length firsts → f ≡ get_or firsts n d → m ≡ n + 1 →
     ((other : ℕ) → row new other ≡ row old other ++ cond (is_key (Some f.state) other) (f.id ∷ []) []) →
     ((state : ℕ) → row old state ≡ accept (take n firsts) (state ∷ [])) → (state : ℕ) → row new state ≡ accept (take m firsts) (state ∷ [])
@@ -37,7 +34,7 @@ ids_next firsts n m f d old new less is next put are state =
     let e : m ≡ suc n = omega arith in
     put state
     ∙ (ap (λ r. r ++ cond (nat_eq state f.state) (f.id ∷ []) []) (are state)
-    ∙ (ap (λ b. accept (take n firsts) (state ∷ []) ++ cond b (f.id ∷ []) []) (sym (or_false (nat_eq state f.state)))
+    ∙ (ap (λ b. accept (take n firsts) (state ∷ []) ++ cond b (f.id ∷ []) []) (sym (or-false (nat_eq state f.state)))
     ∙ (sym (accept-end (take n firsts) f (state ∷ []))
     ∙ (ap (λ fs. accept fs (state ∷ [])) (sym (take_next firsts n f d less is))
     ∙ ap (λ k. accept (take k firsts) (state ∷ [])) (sym e)))))

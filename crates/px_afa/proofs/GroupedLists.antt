@@ -3,8 +3,8 @@ use Rattle.std.proofs.Common.{◌≡◌, ℕ, zero, suc, ◌+◌, ◌<◌, false
 use Rattle.std.specs.Prelude.{slice_set, IfSome}
 use Rattle.std.specs.Global.{Global}
 use Rattle.std.proofs.lemmas.Bool.{eq-eqb, ne_eqb, eqb-true}
-use Rattle.px_afa.proofs.StateOrder.{both_ways}
 use Rattle.px_afa.specs.Lists.{lists_of, row, is_key}
+use Rattle.std.specs.Cmp.{both_ways}
 
 -- one list more, without numbers
 pub row_more : (rows : List (Vec ℕ Global)) (empty : Vec ℕ Global) (key : ℕ) → empty.items ≡ [] → row (lists_of (rows ++ empty ∷ [])) key ≡ row (lists_of rows) key

@@ -91,7 +91,7 @@ parts_below-more (p ∷ parts) n m le h =
     let less : p < n = ltb-true p n both.0 in
     and_from (nat_lt p m) (list_all (λ q. nat_lt q m) parts) (lt-ltb p m (omega arith)) (parts_below-more parts n m le both.1)
 
-state_below-more : (s : State) (n m : ℕ) → n ≤ m → IsStateBelow s n → IsStateBelow s m
+pub state_below-more : (s : State) (n m : ℕ) → n ≤ m → IsStateBelow s n → IsStateBelow s m
 state_below-more (state.Path axis asked bodies.Always) n m le h = tt
 state_below-more (state.Path axis asked (bodies.State p)) n m le h = omega arith
 state_below-more (state.And parts) n m le h = parts_below-more parts n m le h

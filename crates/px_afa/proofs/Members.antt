@@ -5,6 +5,7 @@ use Rattle.std.proofs.lemmas.Grind.{common_steps}
 use Rattle.std.proofs.lemmas.Bool.{ltb-true, ltb-false, eqb-true, eqb-false}
 use Rattle.px_text.specs.Sets.{has}
 use Rattle.px_afa.specs.Sets.{numbers_where, with_number, add}
+use Rattle.std.proofs.Math.Bool.{or-false, and-false, and-true}
 
 -- Bool laws, by cases
 pub or_swap : (a b c : Bool) → (a || (b || c)) ≡ (b || (a || c))
@@ -15,15 +16,6 @@ or_assoc = elim [ true ↦ λ b c. refl | false ↦ λ b c. refl ]
 
 pub or_same : (a c : Bool) → (a || c) ≡ (a || (a || c))
 or_same = elim [ true ↦ λ c. refl | false ↦ λ c. refl ]
-
-pub or_false : (a : Bool) → (a || false) ≡ a
-or_false = elim [ true ↦ refl | false ↦ refl ]
-
-pub and_false : (a : Bool) → (a && false) ≡ false
-and_false = elim [ true ↦ refl | false ↦ refl ]
-
-pub and_true : (a : Bool) → (a && true) ≡ a
-and_true = elim [ true ↦ refl | false ↦ refl ]
 
 pub has-with_number : (x : ℕ) (b : List ℕ) (n : ℕ) → has (with_number x b) n ≡ (nat_eq x n || has b n)
 has-with_number x [] n = refl
@@ -46,7 +38,7 @@ has-filter p (x ∷ a) n = go (p x) (nat_eq x n) refl refl (has-filter p a n)
     go : (px e : Bool) → p x ≡ px → nat_eq x n ≡ e → has (filter p a) n ≡ (has a n && p n) →
         has (cond px (x ∷ filter p a) (filter p a)) n ≡ ((nat_eq x n || has a n) && p n)
     go true true hp he ih = let same : x ≡ n = eqb-true x n he in rw (he, ← same) (sym hp)
-    go false true hp he ih = let same : x ≡ n = eqb-true x n he in rw (he, ← same, hp) (rw (← same, hp) at ih ∙ and_false (has a x))
+    go false true hp he ih = let same : x ≡ n = eqb-true x n he in rw (he, ← same, hp) (rw (← same, hp) at ih ∙ and-false (has a x))
     go true false hp he ih = rw he ih
     go false false hp he ih = rw he ih
 
@@ -56,7 +48,7 @@ below_more size p n = go (ltb n size) (eqb size n) (ltb n (suc size)) refl refl 
   where
     go : (lt eq more : Bool) → ltb n size ≡ lt → eqb size n ≡ eq → ltb n (suc size) ≡ more → ((lt && p n) || (eq && p size)) ≡ (more && p n)
     go true true more l e m = let below : n < size = ltb-true n size l in let same : size ≡ n = eqb-true size n e in absurd (omega arith)
-    go true false true l e m = or_false (p n)
+    go true false true l e m = or-false (p n)
     go true false false l e m = let below : n < size = ltb-true n size l in let above : suc size ≤ n = ltb-false n (suc size) m in absurd (omega arith)
     go false true true l e m = ap p (eqb-true size n e)
     go false true false l e m = let same : size ≡ n = eqb-true size n e in let above : suc size ≤ n = ltb-false n (suc size) m in absurd (omega arith)
@@ -72,5 +64,5 @@ has-numbers_where (suc size) p n =
     ∙ below_more size p n))
   where
     last : (b : Bool) → has (cond b (size ∷ []) []) n ≡ (nat_eq size n && b)
-    last true = or_false (nat_eq size n) ∙ sym (and_true (nat_eq size n))
-    last false = sym (and_false (nat_eq size n))
+    last true = or-false (nat_eq size n) ∙ sym (and-true (nat_eq size n))
+    last false = sym (and-false (nat_eq size n))

@@ -21,6 +21,7 @@ use Rattle.px_afa.proofs.StatesByNumber.{newest-at, newest-length}
 use Rattle.px_afa.proofs.Sizes.{label-few}
 use Rattle.px_afa.proofs.ToldLabels.{kind_at-low}
 use Rattle.px_afa.proofs.GuardTables.{body_guard-below, newest_get}
+use Rattle.std.proofs.Math.Bool.{and-false}
 
 pub get_map : {A B : Type 0} (f : A → B) (xs : List A) (n : ℕ) → slice_get (map f xs) n ≡ option_map f (slice_get xs n)
 get_map f [] n = refl
@@ -105,13 +106,9 @@ where-same : (n : ℕ) (p q : ℕ → Bool) → ((m : ℕ) → p m ≡ q m) → 
 where-same zero p q e = refl
 where-same (suc n) p q e = ap (λ r. r ++ cond (p n) (n ∷ []) []) (where-same n p q e) ∙ ap (λ b. numbers_where n q ++ cond b (n ∷ []) []) (e n)
 
-where-none : (n : ℕ) (p : ℕ → Bool) → ((m : ℕ) → p m ≡ false) → numbers_where n p ≡ []
+pub where-none : (n : ℕ) (p : ℕ → Bool) → ((m : ℕ) → p m ≡ false) → numbers_where n p ≡ []
 where-none zero p e = refl
 where-none (suc n) p e = ap (λ b. numbers_where n p ++ cond b (n ∷ []) []) (e n) ∙ (append-nil (numbers_where n p) ∙ where-none n p e)
-
-and_false : (b : Bool) → (b && false) ≡ false
-and_false true = refl
-and_false false = refl
 
 or_false : (b : Bool) → b ≡ (b || false)
 or_false true = refl
@@ -129,4 +126,4 @@ pub loosely-none : (states : List State) (label : ℕ) → false ≡ is_element_
 loosely-none states label not_element not_attribute =
     sym (where-none (length states) _ (λ m.
     ap (λ b. is_unguarded states (state_at states m) && ((b && tests_any_element (state_at states m)) || (is_attribute_label (names_of states) label && tests_any_attribute (state_at states m)))) (sym not_element)
-    ∙ (ap (λ b. is_unguarded states (state_at states m) && (b && tests_any_attribute (state_at states m))) (sym not_attribute) ∙ and_false (is_unguarded states (state_at states m)))))
+    ∙ (ap (λ b. is_unguarded states (state_at states m) && (b && tests_any_attribute (state_at states m))) (sym not_attribute) ∙ and-false (is_unguarded states (state_at states m)))))

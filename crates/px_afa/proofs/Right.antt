@@ -18,9 +18,9 @@ use Rattle.px_afa.specs.Contents.{content_of}
 use Rattle.px_afa.specs.Truth.{true_at, state_holds, body_holds}
 use Rattle.px_afa.specs.Orders.{IsOrdered, IsStateBelow, IsBodyBelow}
 use Rattle.px_afa.specs.Building.{share, Made, MadeParts, MadeBody, one_of, body_made, end_made, joined, alone, path_made, way_made, condition_made, conditions_made}
-use Rattle.px_afa.proofs.Members.{and_true}
 use Rattle.px_afa.proofs.Candidates.{candidates-are}
 use Rattle.px_afa.proofs.Growing.{Grows, grows-same, grows-on, shared, parts_below-more}
+use Rattle.std.proofs.Math.Bool.{and-true}
 
 -- the truth of a state at a place
 abbrev pub true_there : List State → ℕ → Place → Bool
@@ -74,7 +74,7 @@ pub one_of-right : (first states : List State) (parts : List ℕ) (holds : Place
 one_of-right first states (n ∷ []) holds ordered r = record {
   grows = r.grows;
   within = ltb-true n (length states) ((and_parts (nat_lt n (length states)) true r.below).0);
-  means = λ x. sym (and_true (true_there states n x)) ∙ r.means x;
+  means = λ x. sym (and-true (true_there states n x)) ∙ r.means x;
 }
 one_of-right first states [] holds ordered r = state-right first states (state.And []) holds r.grows ordered refl r.means
 one_of-right first states (n ∷ m ∷ parts) holds ordered r = state-right first states (state.And (n ∷ m ∷ parts)) holds r.grows ordered r.below r.means
@@ -95,7 +95,7 @@ alone-right : (first : List State) (made : Made) (holds : Place → Bool) → Ri
 alone-right first made holds r = record {
   grows = r.grows;
   below = and_from (nat_lt made.number (length made.states)) true (lt-ltb made.number (length made.states) r.within) refl;
-  means = λ x. and_true (true_there made.states made.number x) ∙ r.means x;
+  means = λ x. and-true (true_there made.states made.number x) ∙ r.means x;
 }
 
 path-right : (first states : List State) (axis : Axis) (asked : Test) (body : Body) (holds : Place → Bool) → IsOrdered states → RightBody first (record { states = states; body = body }) holds →

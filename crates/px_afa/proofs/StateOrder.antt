@@ -31,6 +31,7 @@ use Rattle.px_afa.specs.contracts.state.StateOrd.TheImpl.Laws as laws
 use Rattle.px_afa.specs.Building.{same_axis, same_test, same_relation, same_value, same_body, same_state}
 use Rattle.px_afa.specs.Numbering.{AreNumbered}
 use Rattle.px_afa.proofs.SameStates.{same_state-is}
+use Rattle.std.specs.Cmp.{both_ways}
 
 is_equal : (o : Ordering) → is_eq o ≡ true → o ≡ Equal
 is_equal Equal h = refl
@@ -126,11 +127,6 @@ same_state-itself (state.And ps) = (bytes_eq-Decides ps ps).1 refl
 same_state-itself (state.Or ps) = (bytes_eq-Decides ps ps).1 refl
 same_state-itself (state.Not p) = eq-eqb p p refl
 same_state-itself (state.Value r v) = and_from (same_relation r r) (same_value v v) (same_relation-itself r) (same_value-itself v)
-
-pub both_ways : (a b : Bool) → (a ≡ true → b ≡ true) → (b ≡ true → a ≡ true) → a ≡ b
-both_ways true b f g = sym (f refl)
-both_ways false true f g = g refl
-both_ways false false f g = refl
 
 ordered_as_same : (s t : State) → is_eq (order.cmp-value.it t s) ≡ same_state s t
 ordered_as_same s t =

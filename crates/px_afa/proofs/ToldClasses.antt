@@ -27,8 +27,10 @@ use Rattle.px_afa.specs.Sets.{numbers_where}
 use Rattle.px_afa.specs.Classes.{state_literal, with_literal, literals_of, class_of_text, text_class, state_constant, with_constant, with_if_some, constants_of, cut_class, class_of_number, number_class, constant_class, text_value_true, class_compares, number_value_true}
 use Rattle.px_afa.specs.Functions.{value_text, value_number}
 use Rattle.px_afa.specs.Machine.{machine_of, values_of}
-use Rattle.px_afa.proofs.Members.{has-add, has-numbers_where, or_false}
+use Rattle.px_afa.proofs.Members.{has-add, has-numbers_where}
 use Rattle.px_afa.proofs.Found.{state_at-below}
+use Rattle.std.proofs.Math.Bool.{or-false}
+use Rattle.px_text.proofs.Comparing.{nat_less, nat_greater}
 
 class_low : (i : ℕ) (ls : List (List ℕ)) (t : List ℕ) → (class_of_text i ls t ≡ 0) ⊎ (i ≤ class_of_text i ls t)
 class_low i [] t = inl refl
@@ -71,14 +73,8 @@ class-text i (x ∷ xs) s t up h = go (bytes_eq x s) (bytes_eq x t) refl refl h 
         ∙ sym (differ (λ ts. let u : x ≡ s = (bytes_eq-Decides x t).0 f ∙ (bytes_eq-Decides t s).0 ts in let w : bytes_eq x s ≡ true = (bytes_eq-Decides x s).1 u in cc))
     go false false e f h' ih = ih (omega arith) h'
 
-cmp_less : (a b : ℕ) → a < b → nat_cmp a b ≡ Less
-cmp_less a b h = let l : nat_lt a b ≡ true = lt-ltb a b h in rw l refl
-
 cmp_equal : (a : ℕ) → nat_cmp a a ≡ Equal
 cmp_equal a = let l : nat_lt a a ≡ false = le-ltb a a (omega arith) in let e : nat_eq a a ≡ true = eq-eqb a a refl in rw (l, e) refl
-
-cmp_greater : (a b : ℕ) → b < a → nat_cmp a b ≡ Greater
-cmp_greater a b h = let l : nat_lt a b ≡ false = le-ltb a b (omega arith) in let e : nat_eq a b ≡ false = ne_eqb a b (λ s. omega arith) in rw (l, e) refl
 
 turned : (a b : ℤ) → int_cmp a b ≡ Less → int_cmp b a ≡ Greater
 turned a b e = int_cmp_total.antisymm b a ∙ ap ordering_reverse e
@@ -222,14 +218,14 @@ class-cut j (x ∷ xs) cut c is rising h =
     high' = cut_class-low (suc (suc j)) xs (int_cmp c)
 
     at_it : (o : Ordering) → nat_cmp (chosen j (cut_class (suc (suc j)) xs cut) o) (suc (suc j)) ≡ o
-    at_it Less = cmp_less (suc j) (suc (suc j)) (omega arith)
+    at_it Less = nat_less (suc j) (suc (suc j)) (omega arith)
     at_it Equal = cmp_equal (suc (suc j))
-    at_it Greater = cmp_greater (cut_class (suc (suc j)) xs cut) (suc (suc j)) high
+    at_it Greater = nat_greater (cut_class (suc (suc j)) xs cut) (suc (suc j)) high
 
     past : (o : Ordering) → cut x ≡ o → int_cmp x c ≡ Less → nat_cmp (cut_class (suc (suc j)) xs cut) (cut_class (suc (suc j)) xs (int_cmp c)) ≡ cut c →
         nat_cmp (chosen j (cut_class (suc (suc j)) xs cut) o) (cut_class (suc (suc j)) xs (int_cmp c)) ≡ cut c
-    past Less e l ih = cmp_less (suc j) (cut_class (suc (suc j)) xs (int_cmp c)) (omega (arith, high')) ∙ elim (is x c l) [ inl g ↦ cc | inr less ↦ sym less ]
-    past Equal e l ih = cmp_less (suc (suc j)) (cut_class (suc (suc j)) xs (int_cmp c)) (omega (arith, high')) ∙ elim (is x c l) [ inl g ↦ cc | inr less ↦ sym less ]
+    past Less e l ih = nat_less (suc j) (cut_class (suc (suc j)) xs (int_cmp c)) (omega (arith, high')) ∙ elim (is x c l) [ inl g ↦ cc | inr less ↦ sym less ]
+    past Equal e l ih = nat_less (suc (suc j)) (cut_class (suc (suc j)) xs (int_cmp c)) (omega (arith, high')) ∙ elim (is x c l) [ inl g ↦ cc | inr less ↦ sym less ]
     past Greater e l ih = ih
 
     go : (x ≡ c) ⊎ IsAmong xs c → (IsAmong xs c → nat_cmp (cut_class (suc (suc j)) xs cut) (cut_class (suc (suc j)) xs (int_cmp c)) ≡ cut c) →
@@ -341,8 +337,8 @@ has-values states n s at text =
 
 literal-told : (states : List State) (r : Relation) (l text : List ℕ) → list_any (λ x. bytes_eq x l) (literals_of states) ≡ true →
     (text_value_true states (text_class states text) (Some (state.Value r (values.Literal l))) || false) ≡ compares r (values.Literal l) text
-literal-told states relations.Equal l text h = or_false (nat_eq (text_class states text) (text_class states l)) ∙ class-text 1 (literals_of states) l text (omega arith) h
-literal-told states relations.NotEqual l text h = or_false (not (nat_eq (text_class states text) (text_class states l))) ∙ ap not (class-text 1 (literals_of states) l text (omega arith) h)
+literal-told states relations.Equal l text h = or-false (nat_eq (text_class states text) (text_class states l)) ∙ class-text 1 (literals_of states) l text (omega arith) h
+literal-told states relations.NotEqual l text h = or-false (not (nat_eq (text_class states text) (text_class states l))) ∙ ap not (class-text 1 (literals_of states) l text (omega arith) h)
 literal-told states relations.Less l text h = refl
 literal-told states relations.AtMost l text h = refl
 literal-told states relations.Greater l text h = refl

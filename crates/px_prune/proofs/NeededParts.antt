@@ -8,14 +8,17 @@ use Rattle.px_afa.specs.declared.state.Body.TheVariants as body
 use Rattle.px_afa.specs.declared.state.State.{State}
 use Rattle.px_afa.specs.declared.state.State.TheVariants as state
 use Rattle.px_afa.specs.Truth.{state_at}
-use Rattle.px_afa.specs.Sets.{needs, need_state, body_needs, numbers_where}
+use Rattle.px_afa.specs.Sets.{needs, need_state, body_needs}
 use Rattle.px_afa.specs.Sound.{AreRising}
 use Rattle.px_afa.specs.Orders.{IsOrdered, IsStateBelow}
 use Rattle.px_afa.specs.Functions.{need, body_need}
-use Rattle.px_afa.proofs.Members.{has-numbers_where, or_false, and_false, or_assoc}
+use Rattle.px_afa.proofs.Members.{has-numbers_where, or_assoc}
 use Rattle.px_afa.proofs.Needed.{needs-below}
-use Rattle.px_step.proofs.Parts.{any_same, below-at, state_more}
+use Rattle.px_step.proofs.Parts.{any_same, below-at}
 use Rattle.px_step.proofs.RisingNumbers.{states-are}
+use Rattle.std.proofs.Math.Bool.{or-false, and-false}
+use Rattle.px_afa.proofs.Growing.{state_below-more}
+use Rattle.px_afa.proofs.PathKeeping.{where-none}
 
 needs-older : (t : State) (before : List State) (k p : ℕ) → p < length before → needs before p k ≡ needs (t ∷ before) p k
 needs-older t before k p less = let e : nat_eq p (length before) ≡ false = ne_eqb p (length before) (λ same. omega arith) in rw e refl
@@ -42,16 +45,16 @@ needs-at (t ∷ before) o n s e k = go (nat_eq n (length before)) refl e (needs-
     go false h e' ih =
         let r = below-at before o.1 n s e' in
         let l : n < length before = r.1 in
-        ih e' k ∙ need_state-same s n k (length before) (needs before) (needs (t ∷ before)) (needs-older t before k) (state_more s n (length before) (omega arith) r.0)
+        ih e' k ∙ need_state-same s n k (length before) (needs before) (needs (t ∷ before)) (needs-older t before k) (state_below-more s n (length before) (omega arith) r.0)
 
 -- one more number behind a list
 pub has-end : (xs : List ℕ) (n k : ℕ) → has (xs ++ n ∷ []) k ≡ (has xs k || nat_eq n k)
-has-end xs n k = list_any-append (λ m. nat_eq m k) xs (n ∷ []) ∙ ap (λ z. has xs k || z) (or_false (nat_eq n k))
+has-end xs n k = list_any-append (λ m. nat_eq m k) xs (n ∷ []) ∙ ap (λ z. has xs k || z) (or-false (nat_eq n k))
 
 -- one more member tried
 pub any_more : (f : ℕ → Bool) (xs : List ℕ) (i : ℕ) → i < length xs → list_any f (take (i + 1) xs) ≡ (list_any f (take i xs) || f (get_or xs i 0))
 any_more f [] i h = absurd (omega arith)
-any_more f (x ∷ xs) zero h = or_false (f x)
+any_more f (x ∷ xs) zero h = or-false (f x)
 any_more f (x ∷ xs) (suc i) h =
     let e : suc i + 1 ≡ suc (i + 1) = omega arith in
     rw e (ap (λ z. f x || z) (any_more f xs i (omega arith)) ∙ sym (or_assoc (f x) (list_any f (take i xs)) (f (get_or xs i 0))))
@@ -69,7 +72,7 @@ parts_added states parts first old new i k less so_far added =
 -- what passes only below a size
 pub below_size : (size k : ℕ) (b : Bool) → (b ≡ true → k < size) → b ≡ (nat_lt k size && b)
 below_size size k true h = let l : nat_lt k size ≡ true = lt-ltb k size (h refl) in rw l refl
-below_size size k false h = sym (and_false (nat_lt k size))
+below_size size k false h = sym (and-false (nat_lt k size))
 
 -- what was gathered for a state, in rising order, is its need
 pub need-is : (states : List State) (n : ℕ) (none given xs : List ℕ) → length states ≤ 500000 → none ≡ [] → ((k : ℕ) → has given k ≡ (has none k || needs states n k)) →
@@ -83,10 +86,6 @@ need-is states n none given xs few e members rises same =
     ∙ sym (has-numbers_where (length states) (needs states n) k))))
     rises same).is
 
-numbers_none : (size : ℕ) (p : ℕ → Bool) → ((n : ℕ) → p n ≡ false) → numbers_where size p ≡ []
-numbers_none zero p h = refl
-numbers_none (suc size) p h = let none : p size ≡ false = h size in rw none (ap (λ z. z ++ []) (numbers_none size p h))
-
 -- Always needs nothing
 pub none-needed : (states : List State) → body_need states body.Always ≡ []
-none-needed states = numbers_none (length states) (body_needs (needs states) body.Always) (λ k. refl)
+none-needed states = where-none (length states) (body_needs (needs states) body.Always) (λ k. refl)

@@ -27,7 +27,7 @@ use Rattle.px_prune.specs.Needing.{path_need, path_needs, needs_of, is_met_need,
 use Rattle.px_prune.proofs.KeptRows.{length-rows_below, rows_below-at}
 use Rattle.px_prune.proofs.NeededParts.{below_size}
 
-body_below : (states : List State) (b : Body) (k : ℕ) → body_needs (needs states) b k ≡ true → k < length states
+pub body_below : (states : List State) (b : Body) (k : ℕ) → body_needs (needs states) b k ≡ true → k < length states
 body_below states body.Always k h = cc
 body_below states (body.State n) k h = needs-below states n k h
 

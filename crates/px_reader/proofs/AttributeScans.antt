@@ -17,8 +17,9 @@ use Rattle.px_reader.specs.Scanning.{standing}
 use Rattle.px_reader.specs.Spelling.{is_among}
 use Rattle.px_reader.specs.Stacks.{is_none}
 use Rattle.px_reader.specs.States.{is_giving, Judging, Takes, HasRoom, Refuses}
-use Rattle.px_reader.proofs.QuickLines.{gives_is, name_no_feed}
+use Rattle.px_reader.proofs.QuickLines.{gives_is}
 use Rattle.px_reader.proofs.TextScans.{feedless_ends}
+use Rattle.px_reader.proofs.Begins.{name_has_none}
 
 -- a name, a space and what is behind it
 pub parts_are : (rest : List ℕ) (count more : ℕ) → count < length rest → get_or rest count 0 ≡ 32 → take (count + 1 + more) rest ≡ take count rest ++ 32 ∷ take more (drop (count + 1) rest)
@@ -49,7 +50,7 @@ behind_behind piece rest at count e =
     ap (drop (count + 1)) e ∙ drop-drop (count + 1) (at + 1) piece ∙ ap (λ k. drop k piece) n
 
 pub attribute_ends : (name value : List ℕ) → list_all continues_name name ≡ true → has_no_feed value ≡ true → is_ended (65 ∷ ((name ++ 32 ∷ value) ++ 10 ∷ [])) ≡ true
-attribute_ends name value n v = feedless_ends 65 (name ++ 32 ∷ value) refl (list_all-append _ name (32 ∷ value) ∙ both_true (name_no_feed name n) v)
+attribute_ends name value n v = feedless_ends 65 (name ++ 32 ∷ value) refl (list_all-append _ name (32 ∷ value) ∙ both_true (name_has_none name n) v)
 
 gives_step : (attributes : List (List ℕ)) (run given value : List ℕ) (names : List (List ℕ)) → is_none names ≡ false → is_among given attributes ≡ false →
     step (standing phases.Giving attributes run names) (Gives given value) ≡ Some (standing phases.Giving (given ∷ attributes) run names, Attr given value ∷ [])

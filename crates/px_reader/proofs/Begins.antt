@@ -18,7 +18,8 @@ use Rattle.px_reader.specs.declared.event.Event.TheVariants.{Attr}
 use Rattle.px_reader.specs.Machine.{State, Before, Attributes, Inside, After, Step, step, step_inside, closed, text_event, reaches}
 use Rattle.px_reader.proofs.LineCuts.{without_end-open}
 use Rattle.px_reader.specs.Lines.{has_no_feed}
-use Rattle.px_reader.proofs.MachineLaws.{spelt_accepted, accepted_spells, reached, reaching, closers, can_end, guard_some, fails_some, from_some}
+use Rattle.px_reader.proofs.MachineLaws.{spelt_accepted, accepted_spells, reached, reaching, closers, can_end, fails_some, from_some}
+use Rattle.std.proofs.lemmas.Option.{cond_some}
 
 solid-append : (a b : List Line) → solid (a ++ b) ≡ solid a ++ solid b
 solid-append [] b = refl
@@ -53,7 +54,7 @@ no_line_feed : (b : ℕ) → continues_name b ≡ true → not (b == 10) ≡ tru
 no_line_feed b h =
     elim (eqb_tells b 10) [ inl p ↦ absurd (let f : continues_name 10 ≡ true = subst (λ n. continues_name n ≡ true) p.1 h in cc) | inr p ↦ rw p.0 refl ]
 
-name_has_none : (bytes : List ℕ) → list_all continues_name bytes ≡ true → has_no_feed bytes ≡ true
+pub name_has_none : (bytes : List ℕ) → list_all continues_name bytes ≡ true → has_no_feed bytes ≡ true
 name_has_none [] h = refl
 name_has_none (b ∷ bytes) h =
     let p = and_parts (continues_name b) (list_all continues_name bytes) h in both_true (no_line_feed b p.0) (name_has_none bytes p.1)
@@ -123,7 +124,7 @@ inside_named : (text name : List ℕ) (outer : List (List ℕ)) (line : Line) (f
 unfolding are_named opens_named
 inside_named text name outer (Opens child) found e n h = from_some (λ f. are_named f.0 ≡ true) _ found e (both_true h n)
 inside_named text name outer (Closes closing) found e n h =
-    let g = guard_some (bytes_eq closing name) (closed outer, text_event text ++ End ∷ []) found e in
+    let g = cond_some (bytes_eq closing name) (closed outer, text_event text ++ End ∷ []) found e in
     let P : Step → Type 0 = λ f. are_named f.0 ≡ true in
     subst P g.1 (closed_named outer (and_parts (is_pyx_name name) (list_all is_pyx_name outer) n).1)
 inside_named text name outer (Gives _ _) found e n h = absurd (cc)
@@ -136,7 +137,7 @@ step_named : (state : State) (line : Line) (found : Step) → step state line �
 unfolding are_named opens_named
 step_named Before (Opens name) found e n h = from_some (λ f. are_named f.0 ≡ true) _ found e (both_true h refl)
 step_named Before line found e n h =
-    let g = guard_some (is_outside line) (Before, []) found e in
+    let g = cond_some (is_outside line) (Before, []) found e in
     let P : Step → Type 0 = λ f. are_named f.0 ≡ true in
     subst P g.1 refl
 step_named (Attributes names name outer) (Gives given value) found e n h =
@@ -146,7 +147,7 @@ step_named (Attributes names name outer) (Gives given value) found e n h =
 step_named (Attributes names name outer) line found e n h = inside_named [] name outer line found e n h
 step_named (Inside text name outer) line found e n h = inside_named text name outer line found e n h
 step_named After line found e n h =
-    let g = guard_some (is_outside line) (After, []) found e in
+    let g = cond_some (is_outside line) (After, []) found e in
     let P : Step → Type 0 = λ f. are_named f.0 ≡ true in
     subst P g.1 refl
 

@@ -15,7 +15,7 @@ use Rattle.px_reader.proofs.LineTexts.{text_parts}
 use Rattle.px_reader.proofs.Feeds.{feed_none, longer}
 use Rattle.std.proofs.lemmas.List.Folds.{list_all-append}
 
-no_feeds : (a b : List ℕ) → has_no_feed a ≡ true → has_no_feed b ≡ true → has_no_feed (a ++ b) ≡ true
+pub no_feeds : (a b : List ℕ) → has_no_feed a ≡ true → has_no_feed b ≡ true → has_no_feed (a ++ b) ≡ true
 no_feeds a b m n = list_all-append _ a b ∙ both_true m n
 
 -- moved to the front

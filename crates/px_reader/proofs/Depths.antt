@@ -8,8 +8,9 @@ use Rattle.px_reader.specs.Lines.{Line, Opens, Closes, Gives, Says, Passed, Empt
 use Rattle.px_reader.specs.Spelling.{is_among}
 use Rattle.px_reader.specs.Verdicts.{opens, closes, depth, attributes_behind}
 use Rattle.px_reader.specs.Machine.{State, Before, Attributes, Inside, After, Step, step, step_inside, closed, text_event, runs, open_in, attributes_in}
-use Rattle.px_reader.proofs.MachineLaws.{guard_some, fails_some, from_some}
+use Rattle.px_reader.proofs.MachineLaws.{fails_some, from_some}
 use Rattle.px_reader.proofs.Runs.{goes, step_same}
+use Rattle.std.proofs.lemmas.Option.{cond_some}
 
 -- an element more, or an element fewer
 abbrev Opened : State → Line → Step → Type 0
@@ -22,7 +23,7 @@ closed_opened (name ∷ outer) = omega arith
 inside_opened : (text name : List ℕ) (outer : List (List ℕ)) (line : Line) (found : Step) → step_inside text name outer line ≡ Some found → Opened (Inside text name outer) line found
 inside_opened text name outer (Opens child) found e = from_some (Opened (Inside text name outer) (Opens child)) _ found e (omega arith)
 inside_opened text name outer (Closes closing) found e =
-    let g = guard_some (bytes_eq closing name) (closed outer, text_event text ++ End ∷ []) found e in
+    let g = cond_some (bytes_eq closing name) (closed outer, text_event text ++ End ∷ []) found e in
     let P : Step → Type 0 = Opened (Inside text name outer) (Closes closing) in
     subst P g.1 (omega (arith, closed_opened outer))
 inside_opened text name outer (Gives _ _) found e = absurd (cc)
@@ -45,7 +46,7 @@ pub step_opened : (state : State) (line : Line) (found : Step) → step state li
     cond (opens line) 1 0 + open_in state ≡ cond (closes line) 1 0 + open_in found.0
 step_opened Before (Opens name) found e = from_some (Opened Before (Opens name)) _ found e (omega arith)
 step_opened Before line found e =
-    let g = guard_some (is_outside line) (Before, []) found e in
+    let g = cond_some (is_outside line) (Before, []) found e in
     let P : Step → Type 0 = Opened Before line in
     subst P g.1 (outside_opened Before line g.0)
 step_opened (Attributes names name outer) (Gives given value) found e =
@@ -55,7 +56,7 @@ step_opened (Attributes names name outer) (Gives given value) found e =
 step_opened (Attributes names name outer) line found e = inside_opened [] name outer line found e
 step_opened (Inside text name outer) line found e = inside_opened text name outer line found e
 step_opened After line found e =
-    let g = guard_some (is_outside line) (After, []) found e in
+    let g = cond_some (is_outside line) (After, []) found e in
     let P : Step → Type 0 = Opened After line in
     subst P g.1 (outside_opened After line g.0)
 
@@ -83,7 +84,7 @@ depth_is lines state given e = taken (count_by opens lines) (count_by closes lin
 inside_gives : (text name : List ℕ) (outer : List (List ℕ)) (line : Line) (found : Step) → step_inside text name outer line ≡ Some found → attributes_in found.0 ≡ 0
 inside_gives text name outer (Opens child) found e = from_some (λ f. attributes_in f.0 ≡ 0) _ found e refl
 inside_gives text name outer (Closes closing) found e =
-    let g = guard_some (bytes_eq closing name) (closed outer, text_event text ++ End ∷ []) found e in
+    let g = cond_some (bytes_eq closing name) (closed outer, text_event text ++ End ∷ []) found e in
     let P : Step → Type 0 = λ f. attributes_in f.0 ≡ 0 in
     subst P g.1 (closed_gives outer)
   where
@@ -127,14 +128,14 @@ step_gives state line lines found e = by_line state line e
     by_line : (state : State) (line : Line) → step state line ≡ Some found →
         attributes_behind (attributes_in state) (line ∷ lines) ≡ attributes_behind (attributes_in found.0) lines
     by_line Before (Opens name) e = none (Opens name) (from_some (λ f. attributes_in f.0 ≡ 0) _ found e refl)
-    by_line Before line e = let g = guard_some (is_outside line) (Before, []) found e in by_outside Before refl line g.0 g.1
+    by_line Before line e = let g = cond_some (is_outside line) (Before, []) found e in by_outside Before refl line g.0 g.1
     by_line (Attributes names name outer) (Gives given value) e =
         let g = fails_some (is_among given names) (Attributes (given ∷ names) name outer, Attr given value ∷ []) found e in
         let n : length names + 1 ≡ attributes_in found.0 = add-one (length names) ∙ ap (λ (p : Step). attributes_in p.0) g.1 in
         ap (λ n. attributes_behind n lines) n
     by_line (Attributes names name outer) line e = by_inside (length names) [] name outer line e
     by_line (Inside text name outer) line e = by_inside 0 text name outer line e
-    by_line After line e = let g = guard_some (is_outside line) (After, []) found e in by_outside After refl line g.0 g.1
+    by_line After line e = let g = cond_some (is_outside line) (After, []) found e in by_outside After refl line g.0 g.1
 
 gives_on : (lines : List Line) (state last : State) (given : List Event) → runs state lines ≡ Some (last, given) → attributes_behind (attributes_in state) lines ≡ attributes_in last
 gives_on [] state last given e = ap attributes_in (step_same (state, []) (last, given) e).0

@@ -12,11 +12,7 @@ use Rattle.px_reader.specs.declared.event.Event.TheVariants.{Start, Attr, End}
 use Rattle.px_reader.specs.Lines.{Line, Opens, Closes, Gives, Says, Passed, Empty, Odd, is_outside}
 use Rattle.px_reader.specs.Spelling.{Body, nothing, passes, says, element, gives, is_among, are_new, begins_with_text, text_then, attribute_event, events, events_of, IsDocument}
 use Rattle.px_reader.specs.Machine.{State, Before, Attributes, Inside, After, Step, step, step_inside, closed, text_event, accepts, reaches}
-
--- a test that has passed, and its answer
-pub guard_some : {A : Type 0} (b : Bool) (x y : A) → (if b then Some x else None) ≡ Some y → (b ≡ true) × (x ≡ y)
-guard_some true x y e = (refl, cc)
-guard_some false x y e = absurd (cc)
+use Rattle.std.proofs.lemmas.Option.{cond_some}
 
 pub fails_some : {A : Type 0} (b : Bool) (x y : A) → (if b then None else Some x) ≡ Some y → (b ≡ false) × (x ≡ y)
 fails_some false x y e = (refl, cc)
@@ -119,7 +115,7 @@ derive_inside text name outer (Opens child) lines found more e c =
     from_some (λ f. Completes f.0 lines more → FromInside text name outer (Opens child ∷ lines) (f.1 ++ more)) (Attributes [] child (name ∷ outer), text_event text ++ Start child ∷ []) found e
     (inside_element text name child outer lines more) c
 derive_inside text name outer (Closes closing) lines found more e c =
-    let g = guard_some (bytes_eq closing name) (closed outer, text_event text ++ End ∷ []) found e in
+    let g = cond_some (bytes_eq closing name) (closed outer, text_event text ++ End ∷ []) found e in
     let same : closing ≡ name = same_text closing name (sym g.0) in
     let P : Step → Type 0 = λ f. Completes f.0 lines more → FromInside text name outer (Closes closing ∷ lines) (f.1 ++ more) in
     subst P g.1
@@ -142,7 +138,7 @@ derive Before (Opens name) lines found more e c =
     from_some (λ f. Completes f.0 lines more → FromBefore (Opens name ∷ lines) (f.1 ++ more)) (Attributes [] name [], Start name ∷ []) found e
     (λ k. ([], name, lines, more, refl, refl, k, refl)) c
 derive Before line lines found more e c =
-    let g = guard_some (is_outside line) (Before, []) found e in
+    let g = cond_some (is_outside line) (Before, []) found e in
     let P : Step → Type 0 = λ f. Completes f.0 lines more → FromBefore (line ∷ lines) (f.1 ++ more) in
     subst P g.1 (λ k. outside_more line lines more g.0 k) c
 derive (Attributes names name outer) (Gives given value) lines found more e c =
@@ -154,7 +150,7 @@ derive (Attributes names name outer) line lines found more e c =
     attributes_end names name outer (line ∷ lines) (found.1 ++ more) (derive_inside [] name outer line lines found more e c)
 derive (Inside text name outer) line lines found more e c = derive_inside text name outer line lines found more e c
 derive After line lines found more e c =
-    let g = guard_some (is_outside line) (After, []) found e in
+    let g = cond_some (is_outside line) (After, []) found e in
     let P : Step → Type 0 = λ f. Completes f.0 lines more → (list_all is_outside (line ∷ lines) ≡ true) × (f.1 ++ more ≡ []) in
     subst P g.1 (λ k. (both_true g.0 k.0, k.1)) c
 

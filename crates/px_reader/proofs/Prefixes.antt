@@ -8,10 +8,11 @@ use Rattle.px_reader.specs.Lines.{Line, Opens, Closes, Gives, Says, Passed, Empt
 use Rattle.px_reader.specs.Spelling.{is_among, kinds}
 use Rattle.px_reader.specs.Machine.{State, Before, Attributes, Inside, After, Step, step, step_inside, closed, text_event, runs}
 use Rattle.px_reader.specs.Judged.{BeginsTree}
-use Rattle.px_reader.proofs.MachineLaws.{guard_some, fails_some, from_some, can_end, closers, accepted_spells}
+use Rattle.px_reader.proofs.MachineLaws.{fails_some, from_some, can_end, closers, accepted_spells}
 use Rattle.px_reader.proofs.Runs.{goes, step_same, accepts-append}
 use Rattle.px_reader.proofs.LineCuts.{sizes}
 use Rattle.px_reader.proofs.Spelt.{document_tree}
+use Rattle.std.proofs.lemmas.Option.{cond_some}
 
 -- what lines give begins the events of some tree
 pub given_begins : (lines : List Line) (state : State) (given : List Event) → runs Before lines ≡ Some (state, given) → BeginsTree given
@@ -40,7 +41,7 @@ Few state found = length found.1 + waiting found.0 ≤ waiting state + 1
 inside_few : (text name : List ℕ) (outer : List (List ℕ)) (line : Line) (found : Step) → step_inside text name outer line ≡ Some found → Few (Inside text name outer) found
 inside_few text name outer (Opens child) found e = from_some (Few (Inside text name outer)) _ found e (rw length-append (omega arith))
 inside_few text name outer (Closes closing) found e =
-    let g = guard_some (bytes_eq closing name) (closed outer, text_event text ++ End ∷ []) found e in
+    let g = cond_some (bytes_eq closing name) (closed outer, text_event text ++ End ∷ []) found e in
     let P : Step → Type 0 = Few (Inside text name outer) in
     subst P g.1 (rw (length-append, none outer) (omega arith))
   where
@@ -58,7 +59,7 @@ inside_few text name outer Odd found e = absurd (cc)
 pub step_few : (state : State) (line : Line) (found : Step) → step state line ≡ Some found → length found.1 + waiting found.0 ≤ waiting state + 1
 step_few Before (Opens name) found e = from_some (Few Before) _ found e (omega arith)
 step_few Before line found e =
-    let g = guard_some (is_outside line) (Before, []) found e in
+    let g = cond_some (is_outside line) (Before, []) found e in
     let P : Step → Type 0 = Few Before in
     subst P g.1 (omega arith)
 step_few (Attributes names name outer) (Gives given value) found e =
@@ -68,7 +69,7 @@ step_few (Attributes names name outer) (Gives given value) found e =
 step_few (Attributes names name outer) line found e = inside_few [] name outer line found e
 step_few (Inside text name outer) line found e = inside_few text name outer line found e
 step_few After line found e =
-    let g = guard_some (is_outside line) (After, []) found e in
+    let g = cond_some (is_outside line) (After, []) found e in
     let P : Step → Type 0 = Few After in
     subst P g.1 (omega arith)
 

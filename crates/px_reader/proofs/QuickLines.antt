@@ -2,13 +2,14 @@
 use Rattle.std.proofs.Common.{◌≡◌, ℕ, Bool, true, false, not, ◌||◌, ◌==◌, List, [], ◌∷◌, ◌++◌, refl, ap, ◌∙◌, subst, inl, inr}
 use Rattle.std.specs.List.{list_all}
 use Rattle.std.specs.Cmp.Derive.{both_true}
-use Rattle.std.proofs.lemmas.Bool.{and_parts, not-true, not_from_false}
+use Rattle.std.proofs.lemmas.Bool.{and_parts, not-true}
 use Rattle.std.proofs.lemmas.Bool.Decides.{eqb_tells}
 use Rattle.px_text.specs.Names.{is_pyx_name, begins_name, continues_name, begins_part, is_digit}
 use Rattle.px_text.specs.Escapes.{unescaped}
-use Rattle.px_reader.specs.Lines.{Line, Opens, Closes, Gives, Says, named, given_by, line_of, without_end, has_no_feed, until_space, behind_space}
+use Rattle.px_reader.specs.Lines.{Line, Opens, Closes, Gives, Says, named, given_by, line_of, without_end, until_space, behind_space}
 use Rattle.px_reader.specs.Plain.{has_no_escape, ends_plain}
 use Rattle.px_reader.proofs.LineCuts.{without_cr, without_end-feed}
+use Rattle.std.proofs.Math.Bool.{or-true}
 
 -- a byte of a name is no line feed, no carriage return and no space
 pub name_byte : (b : ℕ) → continues_name b ≡ true → ((b == 10) ≡ false) × (((b == 13) ≡ false) × ((b == 32) ≡ false))
@@ -17,13 +18,9 @@ name_byte b c = (other 10 refl, (other 13 refl, other 32 refl))
     other : (k : ℕ) → continues_name k ≡ false → (b == k) ≡ false
     other k n = elim (eqb_tells b k) [ inl p ↦ absurd (let f : continues_name k ≡ true = subst (λ x. continues_name x ≡ true) p.1 c in cc) | inr p ↦ p.0 ]
 
-or_true : (a : Bool) → (a || true) ≡ true
-or_true true = refl
-or_true false = refl
-
 wider : (a x y z w : Bool) → (a || w) ≡ true → ((a || x || y || z) || w) ≡ true
 wider true x y z w h = refl
-wider false x y z true h = or_true (false || x || y || z)
+wider false x y z true h = or-true (false || x || y || z)
 wider false x y z false h = absurd (cc)
 
 -- a name's bytes, the first like the others
@@ -35,12 +32,6 @@ name_bytes (b ∷ bytes) n =
   where
     begins_continues : (b : ℕ) → begins_name b ≡ true → continues_name b ≡ true
     begins_continues b h = wider (begins_part b) (is_digit b) (b == 45) (b == 46) (b == 58) h
-
-pub name_no_feed : (name : List ℕ) → list_all continues_name name ≡ true → has_no_feed name ≡ true
-name_no_feed [] n = refl
-name_no_feed (b ∷ bytes) n =
-    let p = and_parts (continues_name b) (list_all continues_name bytes) n in
-    both_true (not_from_false (b == 10) (name_byte b p.0).0) (name_no_feed bytes p.1)
 
 -- bytes that end with no carriage return are a line without its end
 pub name_no_return : (name : List ℕ) → list_all continues_name name ≡ true → without_cr name ≡ name

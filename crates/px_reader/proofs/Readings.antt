@@ -3,7 +3,6 @@ use Rattle.std.proofs.Common.{◌≡◌, ℕ, zero, suc, ◌+◌, ◌-◌, ◌<�
 use Rattle.std.specs.List.{sum_by}
 use Rattle.std.specs.Cmp.Derive.{both_true}
 use Rattle.std.proofs.lemmas.List.{length_push, length-take}
-use Rattle.std.proofs.lemmas.List.Folds.{list_all-append}
 use Rattle.px_reader.specs.declared.event.Event.{Event}
 use Rattle.px_reader.specs.declared.fault.DocKind.TheVariants.{TooBig}
 use Rattle.px_reader.specs.declared.fault.LineFault.{LineFault}
@@ -21,9 +20,7 @@ use Rattle.px_reader.proofs.Prefixes.{given_begins, given_few, kinds_few}
 use Rattle.px_reader.proofs.Pieces.{open_big}
 use Rattle.px_reader.proofs.Taken.{line_taken, line_barred}
 use Rattle.px_reader.proofs.Kept.{kept_judged, kept_more}
-
-no_feeds-append : (a b : List ℕ) → has_no_feed a ≡ true → has_no_feed b ≡ true → has_no_feed (a ++ b) ≡ true
-no_feeds-append a b m n = list_all-append _ a b ∙ both_true m n
+use Rattle.px_reader.proofs.Buffered.{no_feeds}
 
 -- the events given begin those of some tree, and are not too many
 pub judged_gives : (bytes : List ℕ) (state : State) (given : List Event) → Judged (lines_of bytes) state given → BeginsTree given × (length given ≤ length bytes)
@@ -58,7 +55,7 @@ ended_by state kept size lines bytes given part r e =
     let line : r.begun ++ part ≡ (r.begun ++ front) ++ 10 ∷ [] = ap (λ bs. r.begun ++ bs) same ∙ sym (append_assoc r.begun front (10 ∷ [])) in
     record {
       front = r.begun ++ front;
-      goes_on = no_feeds-append r.begun front r.no_feed n;
+      goes_on = no_feeds r.begun front r.no_feed n;
       line_is = line;
       bytes_are = ap (λ bs. bs ++ part) r.bytes_are ∙ append_assoc r.ended r.begun part ∙ ap (λ bs. r.ended ++ bs) line;
     }
@@ -148,7 +145,7 @@ read_part state kept size lines bytes given part r n fits kept' k = record {
   begun = r.begun ++ part;
   bytes_are = ap (λ bs. bs ++ part) r.bytes_are ∙ append_assoc r.ended r.begun part;
   whole = r.whole;
-  no_feed = no_feeds-append r.begun part r.no_feed n;
+  no_feed = no_feeds r.begun part r.no_feed n;
   kept_are = k ∙ kept_more kept r.begun part r.kept_are;
   size_is = grown size bytes part r.size_is;
   small = subst (λ n. n ≤ 16_777_216) (grown size bytes part r.size_is) fits;
@@ -161,7 +158,7 @@ pub read_part_big : (state : State) (kept : List ℕ) (size lines : ℕ) (bytes 
     has_no_feed part ≡ true → 16_777_216 < size + length part → IsFirstFault (bytes ++ part) (fault_at (lines + 1) (Kind TooBig))
 read_part_big state kept size lines bytes given part r n big = λ rest.
     let over = subst (λ n. 16_777_216 < n) (sym (sizes_are state kept size lines bytes given part r)) big in
-    let j = open_big (lines_of r.ended) state given (r.begun ++ part) rest r.judged (no_feeds-append r.begun part r.no_feed n) over in
+    let j = open_big (lines_of r.ended) state given (r.begun ++ part) rest r.judged (no_feeds r.begun part r.no_feed n) over in
     let cut : (bytes ++ part) ++ rest ≡ r.ended ++ ((r.begun ++ part) ++ rest) =
     ap (λ bs. (bs ++ part) ++ rest) r.bytes_are ∙ ap (λ bs. bs ++ rest) (append_assoc r.ended r.begun part) ∙ append_assoc r.ended (r.begun ++ part) rest in
     let same : lines_of ((bytes ++ part) ++ rest) ≡ lines_of r.ended ++ lines_of ((r.begun ++ part) ++ rest) = ap lines_of cut ∙ lines_whole r.ended ((r.begun ++ part) ++ rest) r.whole in

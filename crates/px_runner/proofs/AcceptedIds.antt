@@ -26,7 +26,7 @@ use Rattle.px_runner.proofs.Pruning.{prune-same}
 use Rattle.px_runner.proofs.Gathered.{gathered-path}
 
 -- two sets that agree on the first states accept the same
-accept-same : (firsts : List First) (a b : List ℕ) → ((n : ℕ) → has (first_set firsts) n ≡ true → has a n ≡ has b n) → accept firsts a ≡ accept firsts b
+pub accept-same : (firsts : List First) (a b : List ℕ) → ((n : ℕ) → has (first_set firsts) n ≡ true → has a n ≡ has b n) → accept firsts a ≡ accept firsts b
 accept-same [] a b h = refl
 accept-same (f ∷ firsts) a b h =
     ap (λ c. cond c (f.id ∷ accept firsts a) (accept firsts a)) (h f.state (has-with_number f.state (first_set firsts) f.state ∙ or_left (nat_eq f.state f.state) (has (first_set firsts) f.state) (eq-eqb f.state f.state refl)))

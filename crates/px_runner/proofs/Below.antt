@@ -12,11 +12,11 @@ use Rattle.px_afa.proofs.Found.{state_at-below}
 use Rattle.px_afa.specs.Steps.{answer_of}
 use Rattle.px_runner.specs.Operands.{AreBelow, AreStates, AreOfProgram}
 
-below-more : (a b : ℕ) (set : List ℕ) → a ≤ b → AreBelow a set → AreBelow b set
+pub below-more : (a b : ℕ) (set : List ℕ) → a ≤ b → AreBelow a set → AreBelow b set
 below-more a b [] h s = tt
 below-more a b (n ∷ set) h s = let one = s.0 in (omega arith, below-more a b set h s.1)
 
-below-append : (bound : ℕ) (xs ys : List ℕ) → AreBelow bound xs → AreBelow bound ys → AreBelow bound (xs ++ ys)
+pub below-append : (bound : ℕ) (xs ys : List ℕ) → AreBelow bound xs → AreBelow bound ys → AreBelow bound (xs ++ ys)
 below-append bound [] ys p q = q
 below-append bound (x ∷ xs) ys p q = (p.0, below-append bound xs ys p.1 q)
 

@@ -18,7 +18,8 @@ use Rattle.px_afa.specs.Machine.{Machine, IsTold, values_of, after_leaf, after_e
 use Rattle.px_afa.specs.Orders.{IsOrdered}
 use Rattle.px_afa.proofs.Needed.{true_in-agrees, needs-looked, IsLooked}
 use Rattle.px_afa.proofs.Found.{true_at-path, true_at-value, state_at-below}
-use Rattle.px_afa.proofs.Members.{has-add, has-filter, has-numbers_where, or_false, and_true, and_false, or_assoc}
+use Rattle.px_afa.proofs.Members.{has-add, has-filter, has-numbers_where, or_assoc}
+use Rattle.std.proofs.Math.Bool.{or-false, and-false, and-true}
 
 -- a looked-at state is a Path or a Value
 by_looked : (o : Option State) (P : Type 0) → IsLooked o →
@@ -76,7 +77,7 @@ gathered-value machine n r x e (Leaf a v rest) needed gathered =
         has-add gathered (mask (pop_of machine.states set (machine.label_of kind)) needed) n
         ∙ (ap (λ b. has gathered n || b) (has-filter (has needed) (pop_of machine.states set (machine.label_of kind)) n
         ∙ ap (λ b. b && has needed n) (has-pop machine.states set (machine.label_of kind) n (state.Value r x) e ∙ popped-value machine.states (machine.label_of kind) (has set) n r x e))
-        ∙ or_false (has gathered n))
+        ∙ or-false (has gathered n))
 gathered-value machine n r x e (Element name inside rest) needed gathered =
     gathered-value machine n r x e rest needed (after_element machine needed gathered name (characters inside) (gathered_of machine (needed_inside machine needed name) [] inside))
     ∙ no_more (add (gathered_of machine (needed_inside machine needed name) [] inside) (values_of machine (characters inside))) (ElementKind name)
@@ -86,7 +87,7 @@ gathered-value machine n r x e (Element name inside rest) needed gathered =
         has-add gathered (mask (pop_of machine.states set (machine.label_of kind)) needed) n
         ∙ (ap (λ b. has gathered n || b) (has-filter (has needed) (pop_of machine.states set (machine.label_of kind)) n
         ∙ ap (λ b. b && has needed n) (has-pop machine.states set (machine.label_of kind) n (state.Value r x) e ∙ popped-value machine.states (machine.label_of kind) (has set) n r x e))
-        ∙ or_false (has gathered n))
+        ∙ or-false (has gathered n))
 
 -- a looked_at Path state p has what a masked pop gives it
 masked : (machine : Machine) (p : ℕ) (s : State) → state_at machine.states p ≡ Some s → (needed gathered set : List ℕ) (kind : Kind) → has needed p ≡ true →
@@ -95,7 +96,7 @@ masked machine p s e needed gathered set kind n =
     has-add gathered (mask (pop_of machine.states set (machine.label_of kind)) needed) p
     ∙ ap (λ b. has gathered p || b) (has-filter (has needed) (pop_of machine.states set (machine.label_of kind)) p
     ∙ (ap (λ b. has (pop_of machine.states set (machine.label_of kind)) p && b) n
-    ∙ (and_true (has (pop_of machine.states set (machine.label_of kind)) p) ∙ has-pop machine.states set (machine.label_of kind) p s e)))
+    ∙ (and-true (has (pop_of machine.states set (machine.label_of kind)) p) ∙ has-pop machine.states set (machine.label_of kind) p s e)))
 
 -- at a leaf the values are the truth, on what is looked at
 leaf-truth : (machine : Machine) → IsTold machine → IsOrdered machine.states → (v : List ℕ) (k : ℕ) → IsLooked (state_at machine.states k) →
@@ -143,7 +144,7 @@ inner-truth machine told ordered inside ih needed k looked looked_at =
     ((has (gathered_of machine needed [] inside) k || has (values_of machine (characters inside)) k) ≡ true_at machine.states k (characters inside) inside) looked
     (λ axis asked body e.
     ap (λ b. has (gathered_of machine needed [] inside) k || b) (told.no_paths k axis asked body e (characters inside))
-    ∙ (or_false (has (gathered_of machine needed [] inside) k)
+    ∙ (or-false (has (gathered_of machine needed [] inside) k)
     ∙ (ih needed [] k axis asked body e (looked_at (state.Path axis asked body) e)
     ∙ sym (true_at-path machine.states ordered k axis asked body e (characters inside) inside))))
     (λ r x e.
@@ -189,8 +190,8 @@ leaf-step machine told ordered a v needed gathered p axis asked body e n =
     (popped-is machine told p axis asked body e (leaf_kind a) (has (values_of machine v)) v Empty
     (λ m k b. leaf-truth machine told ordered v k (body-looked machine.states body k b))
     ∙ (ap (λ b. (meets asked (leaf_kind a) && body_holds (true_at machine.states) body v Empty) || ((is_below axis && b) && has (values_of machine v) p)) (no_element a)
-    ∙ (ap (λ b. (meets asked (leaf_kind a) && body_holds (true_at machine.states) body v Empty) || (b && has (values_of machine v) p)) (and_false (is_below axis))
-    ∙ or_false (meets asked (leaf_kind a) && body_holds (true_at machine.states) body v Empty))))
+    ∙ (ap (λ b. (meets asked (leaf_kind a) && body_holds (true_at machine.states) body v Empty) || (b && has (values_of machine v) p)) (and-false (is_below axis))
+    ∙ or-false (meets asked (leaf_kind a) && body_holds (true_at machine.states) body v Empty))))
   where
     no_element : (o : Option (List ℕ)) → is_element (leaf_kind o) ≡ false
     no_element None = refl
@@ -198,7 +199,7 @@ leaf-step machine told ordered a v needed gathered p axis asked body e n =
 
 -- the accumulator after some content has a looked_at Path state where it had it before, or some child makes it true
 pub gathered-path : (machine : Machine) → IsTold machine → IsOrdered machine.states → (c : Content) → Inside machine c
-gathered-path machine told ordered Empty needed gathered p axis asked body e n = sym (or_false (has gathered p))
+gathered-path machine told ordered Empty needed gathered p axis asked body e n = sym (or-false (has gathered p))
 gathered-path machine told ordered (Leaf a v rest) needed gathered p axis asked body e n =
     gathered-path machine told ordered rest needed (after_leaf machine needed gathered a v) p axis asked body e n
     ∙ (ap (λ b. b || some_child axis asked (body_holds (true_at machine.states) body) rest) (leaf-step machine told ordered a v needed gathered p axis asked body e n)

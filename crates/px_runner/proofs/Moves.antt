@@ -29,7 +29,7 @@ are_open_on automata stands_for a b k (f ∷ frames) [] h = absurd h
 are_open_on automata stands_for a b k (f ∷ frames) (o ∷ outer) h = (is_open_on k h.0, are_open_on automata stands_for a b k frames outer h.1)
 
 -- the frame pushed last stands first from the inside out
-turned : {A : Type 0} (xs : List A) (x : A) → reverse (xs ++ x ∷ []) ≡ x ∷ reverse xs
+pub turned : {A : Type 0} (xs : List A) (x : A) → reverse (xs ++ x ∷ []) ≡ x ∷ reverse xs
 turned xs x = reverse-append xs (x ∷ [])
 
 module _ {M : Type 0} (automata : M → Automata) (stands_for : M → Held → List ℕ → Type 0) (tells : M → List Step → List (List ℕ) → Type 0) where

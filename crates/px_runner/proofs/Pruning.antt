@@ -10,10 +10,12 @@ use Rattle.px_afa.specs.Contents.{Content, Empty, Leaf, Element, ElementKind, le
 use Rattle.px_afa.specs.Truth.{state_at, is_below}
 use Rattle.px_afa.specs.Sets.{add, mask, pop_of, push_of, popped, popped_state, pushed, pushed_state, needs, need_state, body_needs, true_in, state_in, body_in, Label}
 use Rattle.px_afa.specs.Machine.{Machine, values_of, needed_inside, gathered_of, all_gathered}
-use Rattle.px_afa.proofs.Needed.{needs-below, all_agree, any_agree}
+use Rattle.px_afa.proofs.Needed.{all_agree, any_agree}
 use Rattle.px_afa.proofs.Found.{state_at-below}
-use Rattle.px_afa.proofs.Members.{has-add, has-filter, has-numbers_where, and_true}
+use Rattle.px_afa.proofs.Members.{has-add, has-filter, has-numbers_where}
 use Rattle.px_runner.proofs.Gathered.{any_at}
+use Rattle.std.proofs.Math.Bool.{and-true}
+use Rattle.px_prune.proofs.Pushed.{body_below}
 
 -- two sets that agree on what a state needs
 pub true_in-same : (states : List State) (a b : ℕ → Bool) (m : ℕ) → ((k : ℕ) → needs states m k ≡ true → a k ≡ b k) → true_in states a m ≡ true_in states b m
@@ -38,10 +40,6 @@ body-same : (states : List State) (a b : ℕ → Bool) (body : Body) → ((k : �
 body-same states a b bodies.Always h = refl
 body-same states a b (bodies.State m) h = true_in-same states a b m h
 
-body_needs-below : (states : List State) (body : Body) (k : ℕ) → body_needs (needs states) body k ≡ true → k < length states
-body_needs-below states bodies.Always k h = cc
-body_needs-below states (bodies.State m) k h = needs-below states m k h
-
 -- what pop asks of two sets to give p the same answer
 pub popped-same : (states : List State) (label : Label) (a b : ℕ → Bool) (p : ℕ) → ((k : ℕ) → k < length states → pushed_state (state_at states p) label (needs states) p k ≡ true → a k ≡ b k) →
     popped states label a p ≡ popped states label b p
@@ -61,7 +59,7 @@ popped-same states label a b p h = go (state_at states p) refl h
         first : (m : Bool) → label.meets_test asked ≡ m → (m && body_in (true_in states a) body) ≡ (m && body_in (true_in states b) body)
         first false is = refl
         first true is =
-            body-same states a b body (λ k n. h' k (body_needs-below states body k n)
+            body-same states a b body (λ k n. h' k (body_below states body k n)
             (or_left (label.meets_test asked && body_needs (needs states) body k) ((is_below axis && label.of_element) && nat_eq p k) (and_from (label.meets_test asked) (body_needs (needs states) body k) is n)))
 
         second : (m : Bool) → (is_below axis && label.of_element) ≡ m → (m && a p) ≡ (m && b p)
@@ -87,7 +85,7 @@ step-same states needed gathered all a b label p n same h =
     ∙ (ap (λ c. has gathered p || c)
     (has-filter (has needed) (pop_of states a label) p
     ∙ (ap (λ c. has (pop_of states a label) p && c) n
-    ∙ (and_true (has (pop_of states a label) p)
+    ∙ (and-true (has (pop_of states a label) p)
     ∙ (has-numbers_where (length states) (popped states label (has a)) p
     ∙ (ap (λ c. nat_lt p (length states) && c) (popped-same states label (has a) (has b) p h)
     ∙ sym (has-numbers_where (length states) (popped states label (has b)) p))))))

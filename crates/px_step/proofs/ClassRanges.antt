@@ -16,9 +16,11 @@ use Rattle.px_afa.specs.declared.state.Related.{Related}
 use Rattle.px_afa.specs.Truth.{state_at}
 use Rattle.px_afa.specs.Classes.{class_compares}
 use Rattle.px_afa.specs.Tables.{own_class, relates_number, AreRelated}
-use Rattle.px_afa.proofs.Members.{or_false, or_assoc}
+use Rattle.px_afa.proofs.Members.{or_assoc}
 use Rattle.px_step.specs.Valuing.{is_told}
-use Rattle.px_step.proofs.Bools.{both_ways, or_joined}
+use Rattle.px_step.proofs.Bools.{or_joined}
+use Rattle.std.proofs.Math.Bool.{or-false}
+use Rattle.std.specs.Cmp.{both_ways}
 
 abbrev class_of : Related → ℕ
 class_of e = e.class
@@ -162,8 +164,8 @@ three low same high p q entries n =
     turn false false = refl
 
     told : (a b x : Bool) → ((a && (low && x)) || ((not a && (b && (same && x))) || (not a && (not b && (high && x))))) ≡ (x && cond a low (cond b same high))
-    told true b x = or_false (low && x) ∙ turn low x
-    told false true x = or_false (same && x) ∙ turn same x
+    told true b x = or-false (low && x) ∙ turn low x
+    told false true x = or-false (same && x) ∙ turn same x
     told false false x = turn high x
 
 -- which part a class is in tells how it compares

@@ -2,7 +2,7 @@
 use Rattle.std.proofs.Common.{◌≡◌, ℕ, zero, suc, ◌<◌, ◌≤◌, Bool, true, false, not, ◌||◌, ◌&&◌, cond, List, [], ◌∷◌, length, get_or, refl, sym, ◌∙◌, ap, arith, nat_eq, nat_lt, Some, max}
 use mathlib.Core.Bool.{beq}
 use Rattle.std.specs.List.{list_any, list_all}
-use Rattle.std.proofs.lemmas.Bool.{ne_eqb, eqb-true, ltb-true, lt-ltb, and_parts}
+use Rattle.std.proofs.lemmas.Bool.{ne_eqb, eqb-true, ltb-true, and_parts}
 use Rattle.px_afa.specs.declared.state.Body.{Body}
 use Rattle.px_afa.specs.declared.state.Body.TheVariants as body
 use Rattle.px_afa.specs.declared.state.State.{State}
@@ -10,6 +10,7 @@ use Rattle.px_afa.specs.declared.state.State.TheVariants as state
 use Rattle.px_afa.specs.Truth.{state_at}
 use Rattle.px_afa.specs.Sets.{true_in, state_in}
 use Rattle.px_afa.specs.Orders.{IsOrdered, IsStateBelow, IsBodyBelow}
+use Rattle.px_afa.proofs.Growing.{state_below-more}
 
 abbrev pub Agree : ℕ → (ℕ → Bool) → (ℕ → Bool) → Type 0
 Agree size f g = (p : ℕ) → p < size → f p ≡ g p
@@ -36,13 +37,6 @@ state_in-same (state.And parts) set n size f g h below = all_same size f g h par
 state_in-same (state.Or parts) set n size f g h below = any_same size f g h parts below
 state_in-same (state.Not part) set n size f g h below = ap not (h part below)
 
-pub parts_more : (parts : List ℕ) (a b : ℕ) → a ≤ b → list_all (λ p. nat_lt p a) parts ≡ true → list_all (λ p. nat_lt p b) parts ≡ true
-parts_more [] a b le h = refl
-parts_more (p ∷ parts) a b le h =
-    let both = and_parts (nat_lt p a) (list_all (λ q. nat_lt q a) parts) h in
-    let less : p < a = ltb-true p a both.0 in
-    ap (λ x. x && list_all (λ q. nat_lt q b) parts) (lt-ltb p b (omega arith)) ∙ parts_more parts a b le both.1
-
 -- a state's parts are below it
 pub below-at : (states : List State) → IsOrdered states → (n : ℕ) (s : State) → state_at states n ≡ Some s → IsStateBelow s n × (n < length states)
 below-at [] o n s e = cc
@@ -55,14 +49,6 @@ below-at (t ∷ before) o n s e = go (nat_eq n (length before)) refl e (below-at
         let is : t ≡ s = cc in
         (rw (here, sym is) o.0, omega arith)
     go false h e' ih = let r = ih e' in let l : n < length before = r.1 in (r.0, omega arith)
-
-pub state_more : (s : State) (a b : ℕ) → a ≤ b → IsStateBelow s a → IsStateBelow s b
-state_more (state.Path axis asked body.Always) a b le h = tt
-state_more (state.Path axis asked (body.State p)) a b le h = omega arith
-state_more (state.And parts) a b le h = parts_more parts a b le h
-state_more (state.Or parts) a b le h = parts_more parts a b le h
-state_more (state.Not part) a b le h = omega arith
-state_more (state.Value r x) a b le h = tt
 
 -- the truth of a state is that of its parts
 pub true_in-at : (states : List State) → IsOrdered states → (n : ℕ) (s : State) → state_at states n ≡ Some s → (set : ℕ → Bool) → true_in states set n ≡ state_in s set n (true_in states set)
@@ -79,7 +65,7 @@ true_in-at (t ∷ before) o n s e set = go (nat_eq n (length before)) refl e (tr
     go false h e' ih =
         let r = below-at before o.1 n s e' in
         let l : n < length before = r.1 in
-        ih e' set ∙ state_in-same s set n (length before) (true_in before set) (true_in (t ∷ before) set) (true_in-older t before set) (state_more s n (length before) (omega arith) r.0)
+        ih e' set ∙ state_in-same s set n (length before) (true_in before set) (true_in (t ∷ before) set) (true_in-older t before set) (state_below-more s n (length before) (omega arith) r.0)
 
 pub part-at : (parts : List ℕ) (n i : ℕ) → list_all (λ p. nat_lt p n) parts ≡ true → i < length parts → get_or parts i 0 < n
 part-at [] n i h less = absurd (omega arith)

@@ -14,11 +14,12 @@ use Rattle.px_afa.specs.Sound.{AreRising}
 use Rattle.px_afa.specs.Classes.{text_value_true, number_value_true, class_compares}
 use Rattle.px_afa.specs.Functions.{value_text, value_number}
 use Rattle.px_afa.specs.Tables.{relates_text, equal_texts, is_unequal_text, unequal_texts, relates_number, own_class}
-use Rattle.px_afa.proofs.Members.{has-add, has-filter, has-numbers_where, or_false}
+use Rattle.px_afa.proofs.Members.{has-add, has-filter, has-numbers_where}
 use Rattle.px_afa.proofs.Found.{state_at-below}
 use Rattle.px_step.proofs.RisingNumbers.{IsSet, states-are, numbers-rise, rising_filter}
 use Rattle.px_step.proofs.Unions.{rising_add}
 use Rattle.px_step.proofs.Bools.{or_joined}
+use Rattle.std.proofs.Math.Bool.{or-false}
 
 pub equal-rises : (states : List State) (class : ℕ) → length states ≤ 500000 → Rising (equal_texts states class)
 equal-rises states class few = numbers-rise (length states) (λ n. relates_text states relation.Equal class (state_at states n)) (omega arith)
@@ -49,7 +50,7 @@ text-at states class n = go (nat_lt n (length states)) (state_at states n)
     go true (Some (state.Value relation.AtMost (Number units))) = refl
     go true (Some (state.Value relation.Greater (Number units))) = refl
     go true (Some (state.Value relation.AtLeast (Number units))) = refl
-    go true (Some (state.Value relation.Equal (Literal text))) = or_false _
+    go true (Some (state.Value relation.Equal (Literal text))) = or-false _
     go true (Some (state.Value relation.NotEqual (Literal text))) = refl
     go true (Some (state.Value relation.Less (Literal text))) = refl
     go true (Some (state.Value relation.AtMost (Literal text))) = refl
@@ -115,7 +116,7 @@ number-at states class (Some (state.Value relation.AtMost (Number units))) = go 
     go : (b : Bool) → ((b || false) || false) ≡ b
     go true = refl
     go false = refl
-number-at states class (Some (state.Value relation.Greater (Number units))) = or_false _
+number-at states class (Some (state.Value relation.Greater (Number units))) = or-false _
 number-at states class (Some (state.Value relation.AtLeast (Number units))) = refl
 
 number_there : (states : List State) (class n : ℕ) → number_value_true states class (state_at states n) ≡ (nat_lt n (length states) && number_value_true states class (state_at states n))

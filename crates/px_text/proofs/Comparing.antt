@@ -16,13 +16,13 @@ use Rattle.px_text.specs.Numbers.{signed, value}
 use Rattle.px_text.proofs.Digits.{value-append, value_below, units_by_parts}
 use Rattle.px_text.proofs.Numbers.{digits_apart}
 
-nat_less : (a b : ℕ) → a < b → nat_cmp a b ≡ Less
+pub nat_less : (a b : ℕ) → a < b → nat_cmp a b ≡ Less
 nat_less a b h = sym (nat_cmp_is a b Less h)
 
 nat_equal : (a b : ℕ) → a ≡ b → nat_cmp a b ≡ Equal
 nat_equal a b h = sym (nat_cmp_is a b Equal h)
 
-nat_greater : (a b : ℕ) → b < a → nat_cmp a b ≡ Greater
+pub nat_greater : (a b : ℕ) → b < a → nat_cmp a b ≡ Greater
 nat_greater a b h = sym (nat_cmp_is a b Greater h)
 
 -- a statement for each way in which two numbers may stand to each other

@@ -1,11 +1,11 @@
 -- The value of a list of digits, one digit after another and by parts.
-use Rattle.std.proofs.Common.{◌≡◌, ℕ, zero, suc, ◌+◌, ◌-◌, ◌*◌, ◌^◌, ◌<◌, ◌≤◌, Bool, true, false, not, nat_lt, ◌==◌, ◌&&◌, ◌||◌, min, List, [], ◌∷◌, ◌++◌, map, length, length-append, take, drop, get_or, refl, ap, ◌∙◌, lit<, sym, ⊎_elim, mul-one, arith}
+use Rattle.std.proofs.Common.{◌≡◌, ℕ, zero, suc, ◌+◌, ◌-◌, ◌*◌, ◌^◌, ◌<◌, ◌≤◌, Bool, true, not, nat_lt, ◌==◌, ◌||◌, min, List, [], ◌∷◌, ◌++◌, map, length, length-append, take, drop, get_or, refl, ap, ◌∙◌, lit<, sym, ⊎_elim, mul-one, arith}
 use Rattle.std.specs.List.{list_all}
 use Rattle.std.specs.Int.Digits.{number_from_digits, number_from_digits_after}
 use Rattle.std.proofs.Math.Nat.{pow-suc, pow-le-pow_right, one-le-pow, mul-le-mul_right, mul-lt-mul_of_pos_right}
 use Rattle.std.proofs.lemmas.Grind.{pow_more}
 use Rattle.std.proofs.lemmas.Nat.{pow-add}
-use Rattle.std.proofs.lemmas.Bool.{cases_lt}
+use Rattle.std.proofs.lemmas.Bool.{cases_lt, and_parts}
 use Rattle.std.proofs.lemmas.Bool.Decides.{nat_tests}
 use Rattle.std.proofs.lemmas.List.{map-append, map_push, take_more, take_all, take-append-le, drop-append-le}
 use Rattle.std.proofs.lemmas.Int.Digits.{number_after_append, number_push}
@@ -15,14 +15,10 @@ use Rattle.px_text.specs.Numbers.{value}
 pub digit_between : (b : ℕ) → is_digit b ≡ true → (48 ≤ b) × (b ≤ 57)
 digit_between b h = (grind (arith, nat_tests), grind (arith, nat_tests))
 
-first_and_rest : (a b : Bool) → (a && b) ≡ true → (a ≡ true) × (b ≡ true)
-first_and_rest true b e = (refl, e)
-first_and_rest false b e = absurd (cc)
-
 pub digit_at : (ds : List ℕ) (i : ℕ) → list_all is_digit ds ≡ true → i < length ds → (48 ≤ get_or ds i 0) × (get_or ds i 0 ≤ 57)
 digit_at [] i h l = absurd (omega arith)
-digit_at (d ∷ ds) zero h l = digit_between d (first_and_rest (is_digit d) (list_all is_digit ds) h).0
-digit_at (d ∷ ds) (suc i) h l = digit_at ds i (first_and_rest (is_digit d) (list_all is_digit ds) h).1 (omega arith)
+digit_at (d ∷ ds) zero h l = digit_between d (and_parts (is_digit d) (list_all is_digit ds) h).0
+digit_at (d ∷ ds) (suc i) h l = digit_at ds i (and_parts (is_digit d) (list_all is_digit ds) h).1 (omega arith)
 
 after : (n : ℕ) (ds : List ℕ) → number_from_digits_after 10 n ds ≡ n * 10 ^ length ds + number_from_digits 10 ds
 after n [] = omega arith
@@ -40,7 +36,7 @@ value-append a b =
 pub value_below : (ds : List ℕ) → list_all is_digit ds ≡ true → value ds < 10 ^ length ds
 value_below [] h = omega arith
 value_below (d ∷ ds) h =
-    let p = first_and_rest (is_digit d) (list_all is_digit ds) h in
+    let p = and_parts (is_digit d) (list_all is_digit ds) h in
     let first = digit_between d p.0 in
     let fits : value (d ∷ []) * 10 ^ length ds ≤ 9 * 10 ^ length ds = mul-le-mul_right (10 ^ length ds) (omega arith) in
     omega (arith, value-append (d ∷ []) ds, value_below ds p.1, pow-suc 10 (length ds))

@@ -6,7 +6,8 @@ use Rattle.px_text.specs.Names.{is_digit, is_white, begins_part, continues_part,
 use Rattle.px_text.specs.Numbers.{past, is_empty, starts_with_byte}
 use Rattle.px_xpath.specs.Tokens.{Token, Quoted, Numeric, NameTest, part, name_at, number_at, quoted_at, word_at, token_at, ends_operand, tokens_from}
 use Rattle.px_xpath.specs.Faults.{words}
-use Rattle.px_xpath.proofs.PrintedNumbers.{printed_fraction, both_parts}
+use Rattle.px_xpath.proofs.PrintedNumbers.{printed_fraction}
+use Rattle.std.proofs.lemmas.Bool.{and_parts}
 
 -- the text is read as these tokens, from any place on
 abbrev pub Lexes : Bool → List ℕ → List Token → Type 0
@@ -43,7 +44,7 @@ abbrev pub begins : (ℕ → Bool) → List ℕ → Bool
 begins test [] = false
 begins test (b ∷ bytes) = test b
 
-one_more : (n : ℕ) → 1 + n ≡ suc n
+pub one_more : (n : ℕ) → 1 + n ≡ suc n
 one_more n = omega arith
 
 -- a front that passes the test, and a rest that does not begin so
@@ -51,7 +52,7 @@ pub front_taken : (test : ℕ → Bool) (bytes rest : List ℕ) → list_all tes
 front_taken test [] [] h k = refl
 front_taken test [] (b ∷ rest) h k = rw k refl
 front_taken test (b ∷ bytes) rest h k =
-    let p = both_parts (test b) (list_all test bytes) h in
+    let p = and_parts (test b) (list_all test bytes) h in
     rw (p.0, one_more) (ap (λ bs. b ∷ bs) (front_taken test bytes rest p.1 k))
 
 pub front_dropped : (bytes rest : List ℕ) → drop (length bytes) (bytes ++ rest) ≡ rest
@@ -67,7 +68,7 @@ pub record Ends (rest : List ℕ) : Type 0 where
 part_is : (name rest : List ℕ) → is_part name ≡ true → begins continues_part rest ≡ false → part (name ++ rest) ≡ name
 part_is [] rest h k = absurd (cc)
 part_is (b ∷ bytes) rest h k =
-    let p = both_parts (begins_part b) (list_all continues_part bytes) h in
+    let p = and_parts (begins_part b) (list_all continues_part bytes) h in
     rw p.0 (ap (λ bs. b ∷ bs) (front_taken continues_part bytes rest p.1 k))
 
 -- a name is a part, or two parts joined
@@ -90,12 +91,12 @@ left_of (c ∷ bytes) h = by_colon (c == 58) refl (left_of bytes) h
     by_colon : (t : Bool) → (c == 58) ≡ t → (ends_filter_name bytes ≡ true → Left bytes) →
         (if t then is_part bytes else continues_part c && ends_filter_name bytes) ≡ true → Left (c ∷ bytes)
     by_colon true e more h = let colon : c ≡ 58 = grind (arith, nat_tests) in inr ([], bytes, ap (λ x. x ∷ bytes) colon, refl, h)
-    by_colon false e more h = let p = both_parts (continues_part c) (ends_filter_name bytes) h in behind_it (more p.1) p.0
+    by_colon false e more h = let p = and_parts (continues_part c) (ends_filter_name bytes) h in behind_it (more p.1) p.0
 
 joined_name : (name : List ℕ) → is_filter_name name ≡ true → Joined name
 joined_name [] h = absurd (cc)
 joined_name (b ∷ bytes) h =
-    let p = both_parts (begins_part b) (ends_filter_name bytes) h in by_left (left_of bytes p.1) p.0
+    let p = and_parts (begins_part b) (ends_filter_name bytes) h in by_left (left_of bytes p.1) p.0
   where
     by_left : Left bytes → begins_part b ≡ true → Joined (b ∷ bytes)
     by_left (inl e) k = inl (rw (k, e) refl)
@@ -116,7 +117,7 @@ name_is name rest h e = by_parts (joined_name name h)
 
 name_begins : (name : List ℕ) → is_filter_name name ≡ true → (b : ℕ) × (bytes : List ℕ) × (name ≡ b ∷ bytes) × (begins_part b ≡ true)
 name_begins [] h = absurd (cc)
-name_begins (b ∷ bytes) h = (b, bytes, refl, (both_parts (begins_part b) (ends_filter_name bytes) h).0)
+name_begins (b ∷ bytes) h = (b, bytes, refl, (and_parts (begins_part b) (ends_filter_name bytes) h).0)
 
 -- a text that begins as a name does begins with a word
 word_first : (behind : Bool) (b : ℕ) (rest : List ℕ) → begins_part b ≡ true → token_at behind (b ∷ rest) ≡ word_at behind (b ∷ rest)
@@ -228,7 +229,7 @@ pub lexes_number : (behind : Bool) (whole fraction rest : List ℕ) (ts : List T
     begins continues_part rest ≡ false → Lexes true rest ts → Lexes behind (whole ++ (printed_fraction fraction ++ rest)) (Numeric whole fraction ∷ ts)
 lexes_number behind [] fraction rest ts w f e k l = absurd (cc)
 lexes_number behind (d ∷ whole) fraction rest ts w f e k l =
-    let digit = (both_parts (is_digit d) (list_all is_digit whole) w).0 in
+    let digit = (and_parts (is_digit d) (list_all is_digit whole) w).0 in
     let white : is_white d ≡ false = grind (arith, nat_tests) in
     let text = d ∷ (whole ++ (printed_fraction fraction ++ rest)) in
     take_token behind text rest (Numeric (d ∷ whole) fraction) (length (d ∷ whole ++ printed_fraction fraction)) ts

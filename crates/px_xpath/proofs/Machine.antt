@@ -15,6 +15,7 @@ use Rattle.px_text.specs.Numbers.{units_of}
 use Rattle.px_xpath.specs.Machine.{Around, Whole, Within, Group, Square, Round, State, Start, BeforeStep, BehindAt, BehindText, BehindTextOpen, BehindElement, BehindLast, BeforeUnary, BehindNot, BehindDot, BehindRelation, BehindMinus, BehindUnary, step, step_behind_unary, step_behind_path, step_before_step, may_end, accepts, reaches}
 use Rattle.px_xpath.specs.Faults.{Begins}
 use Rattle.std.proofs.Common.{IsSome, ◌↔◌}
+use Rattle.std.proofs.lemmas.Option.{cond_some}
 
 -- what may follow a condition in its bracket, up to the rest
 data GroupTail : List Token → List Token → Type 0 where
@@ -76,10 +77,6 @@ Completes (BehindUnary group) ts = FromUnary group ts
 
 from_some : {A : Type 0} (P : A → Type 0) (x y : A) → Some x ≡ Some y → P x → P y
 from_some P x y e h = let same : x ≡ y = cc in subst P same h
-
-guard_some : {A : Type 0} (b : Bool) (x y : A) → (if b then Some x else None) ≡ Some y → (b ≡ true) × (x ≡ y)
-guard_some true x y e = (refl, cc)
-guard_some false x y e = absurd (cc)
 
 -- the same steps behind another separator
 relabel : {ts rest : List Token} {axis : Axis} {way : Way} → Stands ts (Steps axis way) rest → (other : Axis) → (way : Way) × Stands ts (Steps other way) rest
@@ -225,7 +222,7 @@ derive (BehindDot group) Slashes ts found e c =
     from_some (λ f. Completes f ts → Completes (BehindDot group) (Slashes ∷ ts)) (BeforeStep (Within group)) found e (λ f. (Below, ts, refl, f)) c
 derive (BehindDot group) _ ts found e c = absurd (cc)
 derive (BehindRelation r group) (Quoted t) ts found e c =
-    let g = guard_some (is_equality r) (BehindUnary group) found e in
+    let g = cond_some (is_equality r) (BehindUnary group) found e in
     let P : State → Type 0 = λ f. Completes f ts → Completes (BehindRelation r group) (Quoted t ∷ ts) in
     subst P g.1 (λ f. (Literal t, ts, literal g.0, f)) c
 derive (BehindRelation r group) (Numeric whole fraction) ts found e c =

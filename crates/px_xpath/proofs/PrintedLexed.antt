@@ -19,10 +19,11 @@ use Rattle.px_xpath.specs.Tokens.{Token, Slash, Slashes, OpenSquare, CloseSquare
 use Rattle.px_xpath.specs.Grammar.{separator}
 use Rattle.px_xpath.specs.Faults.{words}
 use Rattle.px_xpath.specs.Printed.{printed_axis, printed_start, printed_test, printed_relation, printed_value, joining, in_brackets_if, stands_bracketed, quote_of, printed, printed_steps, printed_path, printed_preds, printed_condition, printed_members, printed_more}
-use Rattle.px_xpath.proofs.PrintedNumbers.{both_parts, printed_is, whole_digits, decimals_digits, whole_some, is_below_zero, printed_whole, printed_decimals, printed_fraction}
+use Rattle.px_xpath.proofs.PrintedNumbers.{printed_is, whole_digits, decimals_digits, whole_some, is_below_zero, printed_whole, printed_decimals, printed_fraction}
 use Rattle.px_xpath.proofs.PrintedTokens.{test_tokens, start_tokens, value_tokens, minus_if, joining_token, open_if, close_if, steps_tokens, path_tokens, preds_tokens, condition_tokens, members_tokens, more_tokens}
 use Rattle.px_xpath.proofs.Lexing.{Lexes, Ends, lexes_end, take_token, skip_space, lexes_name, lexes_literal, lexes_single, lexes_number}
 use Rattle.px_xpath.proofs.Writable.{IsGoodTest, IsGoodValue, HasSteps, HasTwo, IsWritable, CanBeWritten, AreWritable}
+use Rattle.std.proofs.lemmas.Bool.{and_parts}
 
 -- The printed parts of a filter before a text.
 abbrev axis_text : Axis → List ℕ → List ℕ
@@ -156,7 +157,7 @@ lex_relation AtLeast rest ts s l = take_token true (62 ∷ 61 ∷ rest) rest (Re
 -- what begins a name begins no other token
 begins_name : (name rest : List ℕ) (b : ℕ) → is_filter_name name ≡ true → (b == 95) ≡ false → begins_part b ≡ false → starts_with_byte b (name ++ rest) ≡ false
 begins_name [] rest b h u k = absurd (cc)
-begins_name (c ∷ name) rest b h u k = differs c (both_parts (begins_part c) (ends_filter_name name) h).0
+begins_name (c ∷ name) rest b h u k = differs c (and_parts (begins_part c) (ends_filter_name name) h).0
   where
     differs : (c : ℕ) → begins_part c ≡ true → (c == b) ≡ false
     differs c p = by_test (c == b) refl
@@ -198,7 +199,7 @@ lex_value r (Literal text) rest ts h e l = by_quote (list_any (λ b. b == 34) te
 digits_no_equals : (whole rest : List ℕ) → list_all is_digit whole ≡ true → is_empty whole ≡ false → starts_with_byte 61 (whole ++ rest) ≡ false
 digits_no_equals [] rest h e = absurd (cc)
 digits_no_equals (d ∷ whole) rest h e =
-    let digit = (both_parts (is_digit d) (list_all is_digit whole) h).0 in grind (arith, nat_tests)
+    let digit = (and_parts (is_digit d) (list_all is_digit whole) h).0 in grind (arith, nat_tests)
 
 value_no_equals : (r : Relation) (v : Value) (rest : List ℕ) → IsGoodValue r v → starts_with_byte 61 (value_text v rest) ≡ false
 value_no_equals r (Number units) rest h = by_sign (is_below_zero units)

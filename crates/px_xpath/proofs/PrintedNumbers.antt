@@ -13,10 +13,8 @@ use Rattle.px_text.specs.Names.{is_digit}
 use Rattle.px_text.specs.Numbers.{value, signed, units_of, sign, is_empty}
 use Rattle.px_text.specs.Printing.{digits_text, whole_text, fraction_text, printed}
 use Rattle.px_text.proofs.Digits.{value-append, units_by_parts, fraction_below_one}
-
-pub both_parts : (a b : Bool) → (a && b) ≡ true → (a ≡ true) × (b ≡ true)
-both_parts true b e = (refl, e)
-both_parts false b e = absurd (cc)
+use Rattle.std.proofs.lemmas.Bool.{and_parts}
+use Rattle.px_text.proofs.Printed.{fraction_step, fraction_done}
 
 abbrev AreDigits : List ℕ → Type 0
 AreDigits ds = list_all is_digit ds ≡ true
@@ -25,7 +23,7 @@ digits_test : IsDigitsTest AreDigits
 digits_test = record { empty = refl; parts = parts; more = more }
   where
     parts : (c : ℕ) (cs : List ℕ) → list_all is_digit (c ∷ cs) ≡ true → IsInRange 48 57 c × (list_all is_digit cs ≡ true)
-    parts c cs h = let p = both_parts (is_digit c) (list_all is_digit cs) h in ((grind (arith, nat_tests), grind (arith, nat_tests)), p.1)
+    parts c cs h = let p = and_parts (is_digit c) (list_all is_digit cs) h in ((grind (arith, nat_tests), grind (arith, nat_tests)), p.1)
 
     more : (c : ℕ) (cs : List ℕ) → IsInRange 48 57 c → list_all is_digit cs ≡ true → list_all is_digit (c ∷ cs) ≡ true
     more c cs r h = let low = r.0 in let high = r.1 in let d : is_digit c ≡ true = grind (arith, nat_tests) in rw (d, h) refl
@@ -101,15 +99,9 @@ whole_value units =
     by_zero (λ ds. value ds ≡ unsigned_abs units / 10 ^ 18) n (λ z. sym z)
     (λ s. ap (number_from_digits 10) (mapped_back (digits_of 10 n)) ∙ number_digits_of 10 n (lit≤ tt))
 
--- no fraction has no digits, and another one has a first digit and those behind it
-fraction_none : (places : ℕ) → fraction_text places 0 ≡ []
 unfolding fraction_text
-fraction_none zero = refl
-fraction_none (suc places) = refl
 
-fraction_first : (places n : ℕ) → 0 < n → fraction_text (suc places) n ≡ (48 + n / 10 ^ places) ∷ fraction_text places (n % 10 ^ places)
 unfolding fraction_text
-fraction_first places n h = let some : (n == 0) ≡ false = grind (arith, nat_tests) in rw some refl
 
 record Fraction (places n : ℕ) : Type 0 where
   digits : list_all is_digit (fraction_text places n) ≡ true
@@ -121,7 +113,7 @@ one-le-power n = one-le-pow n 10 (lit< tt)
 
 no_fraction : (places : ℕ) → Fraction places 0
 no_fraction places =
-    let e = fraction_none places in
+    let e = fraction_done places in
     record { digits = rw e refl; short = rw e (omega arith); worth = rw e (omega arith) }
 
 by_parts : (q p1 p2 p vb r m : ℕ) → p1 * p2 ≡ p → vb * p2 ≡ r → q * p + r ≡ m → (q * p1 + vb) * p2 ≡ m
@@ -155,7 +147,7 @@ fraction_of (suc places) (suc n) h =
     let p = one-le-power places in
     let below : suc n < 10 * 10 ^ places = let q = pow-suc 10 places in omega arith in
     first_then places (suc n) (div_below (suc n) (10 ^ places) 10 p below) (fraction_of places (suc n % 10 ^ places) (mod_below (suc n) (10 ^ places) p))
-    (fraction_first places (suc n) (omega arith))
+    (fraction_step places (suc n) (omega arith))
 
 pub decimals_digits : (units : ℤ) → list_all is_digit (printed_decimals units) ≡ true
 decimals_digits units = (fraction_of 18 (unsigned_abs units % 10 ^ 18) (omega arith)).digits
@@ -194,8 +186,8 @@ units_bounded is_negative whole fraction w f h k =
     omega arith
 
 pointed : (n : ℕ) → (if n == 0 then [] else 46 ∷ fraction_text 18 n) ≡ printed_fraction (fraction_text 18 n)
-pointed zero = rw (fraction_none 18) refl
-pointed (suc n) = let some : (suc n == 0) ≡ false = grind (arith, nat_tests) in rw (some, fraction_first 17 (suc n) (omega arith)) refl
+pointed zero = rw (fraction_done 18) refl
+pointed (suc n) = let some : (suc n == 0) ≡ false = grind (arith, nat_tests) in rw (some, fraction_step 17 (suc n) (omega arith)) refl
 
 -- a number is printed as a sign, its digits before the point, and the point and those behind it
 pub printed_is : (units : ℤ) → printed units ≡ sign (is_below_zero units) ++ (printed_whole units ++ printed_fraction (printed_decimals units))

@@ -8,8 +8,9 @@ use Rattle.px_text.specs.Numbers.{past, is_empty, starts_with_byte}
 use Rattle.px_xpath.specs.Tokens.{Token, Slash, Slashes, OpenSquare, CloseSquare, Open, Close, At, Star, Dot, Minus, Related, AndWord, OrWord, NotWord, TextWord, Quoted, Numeric, NameTest, Sized, part, name_at, number_at, quoted_at, word, word_at, one_or_two, token_at, ends_operand, tokens_from, Strange}
 use Rattle.px_xpath.specs.declared.filter.Relation.TheVariants.{Equal, NotEqual, Less, AtMost, Greater, AtLeast}
 use Rattle.px_xpath.specs.Faults.{words}
-use Rattle.px_xpath.proofs.PrintedNumbers.{both_parts}
 use Rattle.px_xpath.proofs.Writable.{IsQuotable}
+use Rattle.std.proofs.lemmas.Bool.{and_parts}
+use Rattle.px_xpath.proofs.Lexing.{one_more}
 
 abbrev pub IsShaped : Token → Type 0
 IsShaped (NameTest name) = is_filter_name name ≡ true
@@ -20,9 +21,6 @@ IsShaped _ = Unit {0}
 abbrev pub AreShaped : List Token → Type 0
 AreShaped [] = Unit {0}
 AreShaped (t ∷ ts) = IsShaped t × AreShaped ts
-
-one_more : (n : ℕ) → 1 + n ≡ suc n
-one_more n = omega arith
 
 -- what is taken while a test passes passes it
 taken_passes : (test : ℕ → Bool) (bytes : List ℕ) → list_all test (take_while test bytes) ≡ true
@@ -87,20 +85,20 @@ not_colon b h = grind (arith, nat_tests)
 ends_alone : (bytes : List ℕ) → list_all continues_part bytes ≡ true → ends_filter_name bytes ≡ true
 ends_alone [] h = refl
 ends_alone (b ∷ bytes) h =
-    let p = both_parts (continues_part b) (list_all continues_part bytes) h in rw (not_colon b p.0, p.0) (ends_alone bytes p.1)
+    let p = and_parts (continues_part b) (list_all continues_part bytes) h in rw (not_colon b p.0, p.0) (ends_alone bytes p.1)
 
 ends_joined : (bytes second : List ℕ) → list_all continues_part bytes ≡ true → is_part second ≡ true → ends_filter_name (bytes ++ 58 ∷ second) ≡ true
 ends_joined [] second h k = k
 ends_joined (b ∷ bytes) second h k =
-    let p = both_parts (continues_part b) (list_all continues_part bytes) h in rw (not_colon b p.0, p.0) (ends_joined bytes second p.1 k)
+    let p = and_parts (continues_part b) (list_all continues_part bytes) h in rw (not_colon b p.0, p.0) (ends_joined bytes second p.1 k)
 
 name_alone : (name : List ℕ) → is_part name ≡ true → is_filter_name name ≡ true
 name_alone [] h = absurd (cc)
-name_alone (b ∷ bytes) h = let p = both_parts (begins_part b) (list_all continues_part bytes) h in rw p.0 (ends_alone bytes p.1)
+name_alone (b ∷ bytes) h = let p = and_parts (begins_part b) (list_all continues_part bytes) h in rw p.0 (ends_alone bytes p.1)
 
 name_joined : (first second : List ℕ) → is_part first ≡ true → is_part second ≡ true → is_filter_name (first ++ 58 ∷ second) ≡ true
 name_joined [] second h k = absurd (cc)
-name_joined (b ∷ bytes) second h k = let p = both_parts (begins_part b) (list_all continues_part bytes) h in rw p.0 (ends_joined bytes second p.1 k)
+name_joined (b ∷ bytes) second h k = let p = and_parts (begins_part b) (list_all continues_part bytes) h in rw p.0 (ends_joined bytes second p.1 k)
 
 is_filled : (bytes : List ℕ) → not (is_empty bytes) ≡ true → is_empty bytes ≡ false
 is_filled [] h = absurd (cc)
@@ -121,8 +119,8 @@ name_is_name text h = by_test (not (is_empty first) && starts_with_byte 58 rest 
     by_test : (t : Bool) → (not (is_empty first) && starts_with_byte 58 rest && not (is_empty second)) ≡ t →
         is_empty (if t then first ++ 58 ∷ second else first) ≡ false → is_filter_name (if t then first ++ 58 ∷ second else first) ≡ true
     by_test true e h =
-        let p = both_parts (not (is_empty first) && starts_with_byte 58 rest) (not (is_empty second)) e in
-        let q = both_parts (not (is_empty first)) (starts_with_byte 58 rest) p.0 in
+        let p = and_parts (not (is_empty first) && starts_with_byte 58 rest) (not (is_empty second)) e in
+        let q = and_parts (not (is_empty first)) (starts_with_byte 58 rest) p.0 in
         name_joined first second (part_is_part text (is_filled first q.0)) (part_is_part (drop 1 rest) (is_filled second p.1))
     by_test false e h = name_alone first (part_is_part text h)
 

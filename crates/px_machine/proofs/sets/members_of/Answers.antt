@@ -1,9 +1,9 @@
 use Rattle.std.proofs.Common.{refl, sym, ap, ◌∙◌, ◌++◌, subst}
-use Rattle.px_afa.specs.Lists.{row}
 use Rattle.px_runner.specs.Operands.{AreBelow}
-use Rattle.px_machine.proofs.Numbered.{from-slice, below-append}
+use Rattle.px_machine.proofs.Numbered.{from-slice}
 use Rattle.px_machine.proofs.Shelved.{members-more, rising-below}
 use Rattle.px_machine.proofs.sets.members_of.Goals as goal
+use Rattle.px_runner.proofs.Below.{below-append}
 
 pub at-requires : goal.at-requires
 at-requires c = record { there = from-slice _ c.args.numbers.now c.loop-n.n-index c.requires.below c.loop-n-test.true }

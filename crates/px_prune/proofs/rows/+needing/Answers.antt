@@ -2,10 +2,11 @@ use Rattle.std.proofs.Common.{◌∙◌, sym, ap, arith, length, ◌<◌, ◌≤
 use Rattle.std.specs.List.{list_any}
 use Rattle.px_text.specs.Sets.{has}
 use Rattle.px_afa.specs.Sets.{needs}
-use Rattle.px_step.proofs.Parts.{below-at, parts_more, part-at, past_parts, parts_within, part_past}
+use Rattle.px_step.proofs.Parts.{below-at, part-at, past_parts, parts_within, part_past}
 use Rattle.px_step.proofs.Results.{if_ok}
 use Rattle.px_prune.proofs.NeededParts.{needs-at, has-end}
 use Rattle.px_prune.proofs.rows.+needing.Goals as goal
+use Rattle.px_afa.proofs.Growing.{parts_below-more}
 
 pub add_needs-add_needs-requires : goal.add_needs-add_needs-requires
 add_needs-add_needs-requires t c =
@@ -18,14 +19,14 @@ add_needs-add_part_needs-requires t c =
     let below = (below-at c.args.program.now.states c.requires.sound.ordered c.args.n _ (c.state.ensures.it ∙ ap Some c.in-And.is)).0 in
     let within : c.args.n < length c.args.program.now.states = c.requires.there in
     let least : past_parts c.in-And.parts ≤ c.args.n = parts_within c.in-And.parts c.args.n below in
-    rw c.as_slice.ensures.same (omega arith, (c.requires.sound, parts_more c.in-And.parts c.args.n (length c.args.program.now.states) (omega arith) below))
+    rw c.as_slice.ensures.same (omega arith, (c.requires.sound, parts_below-more c.in-And.parts c.args.n (length c.args.program.now.states) (omega arith) below))
 
 pub add_needs-add_part_needs-requires-in-Or : goal.add_needs-add_part_needs-requires-in-Or
 add_needs-add_part_needs-requires-in-Or t c =
     let below = (below-at c.args.program.now.states c.requires.sound.ordered c.args.n _ (c.state.ensures.it ∙ ap Some c.in-Or.is)).0 in
     let within : c.args.n < length c.args.program.now.states = c.requires.there in
     let least : past_parts c.in-Or.parts ≤ c.args.n = parts_within c.in-Or.parts c.args.n below in
-    rw c.as_slice-in-Or.ensures.same (omega arith, (c.requires.sound, parts_more c.in-Or.parts c.args.n (length c.args.program.now.states) (omega arith) below))
+    rw c.as_slice-in-Or.ensures.same (omega arith, (c.requires.sound, parts_below-more c.in-Or.parts c.args.n (length c.args.program.now.states) (omega arith) below))
 
 pub add_needs-returns-in-Path : goal.add_needs-returns-in-Path
 add_needs-returns-in-Path t c = record {

@@ -2,8 +2,9 @@ use Rattle.std.proofs.Common.{◌∙◌, sym, ap, arith, not, length, ◌<◌, �
 use Rattle.std.specs.List.{list_all, list_any}
 use Rattle.px_text.specs.Sets.{has}
 use Rattle.px_afa.specs.Sets.{true_in}
-use Rattle.px_step.proofs.Parts.{true_in-at, below-at, parts_more, part-at, past_parts, parts_within, part_past, some_true, none_false}
+use Rattle.px_step.proofs.Parts.{true_in-at, below-at, part-at, past_parts, parts_within, part_past, some_true, none_false}
 use Rattle.px_step.proofs.truth.+truth.Goals as goal
+use Rattle.px_afa.proofs.Growing.{parts_below-more}
 
 pub is_true-is_true-requires : goal.is_true-is_true-requires
 is_true-is_true-requires t c =
@@ -16,14 +17,14 @@ is_true-some_part_is-requires t c =
     let below = (below-at c.args.program.now.states c.requires.sound.ordered c.args.n _ (c.state.ensures.it ∙ ap Some c.in-And.is)).0 in
     let within : c.args.n < length c.args.program.now.states = c.requires.there in
     let least : past_parts c.in-And.parts ≤ c.args.n = parts_within c.in-And.parts c.args.n below in
-    rw c.as_slice.ensures.same (omega arith, (c.requires.sound, parts_more c.in-And.parts c.args.n (length c.args.program.now.states) (omega arith) below))
+    rw c.as_slice.ensures.same (omega arith, (c.requires.sound, parts_below-more c.in-And.parts c.args.n (length c.args.program.now.states) (omega arith) below))
 
 pub is_true-some_part_is-requires-in-Or : goal.is_true-some_part_is-requires-in-Or
 is_true-some_part_is-requires-in-Or t c =
     let below = (below-at c.args.program.now.states c.requires.sound.ordered c.args.n _ (c.state.ensures.it ∙ ap Some c.in-Or.is)).0 in
     let within : c.args.n < length c.args.program.now.states = c.requires.there in
     let least : past_parts c.in-Or.parts ≤ c.args.n = parts_within c.in-Or.parts c.args.n below in
-    rw c.as_slice-in-Or.ensures.same (omega arith, (c.requires.sound, parts_more c.in-Or.parts c.args.n (length c.args.program.now.states) (omega arith) below))
+    rw c.as_slice-in-Or.ensures.same (omega arith, (c.requires.sound, parts_below-more c.in-Or.parts c.args.n (length c.args.program.now.states) (omega arith) below))
 
 pub is_true-returns-in-Path : goal.is_true-returns-in-Path
 is_true-returns-in-Path t c = record { truth = c.has.ensures.member ∙ sym (true_in-at c.args.program.now.states c.requires.sound.ordered c.args.n _ (c.state.ensures.it ∙ ap Some c.in-Path.is) (has c.args.set.now)) }
