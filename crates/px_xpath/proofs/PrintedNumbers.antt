@@ -99,10 +99,6 @@ whole_value units =
     by_zero (λ ds. value ds ≡ unsigned_abs units / 10 ^ 18) n (λ z. sym z)
     (λ s. ap (number_from_digits 10) (mapped_back (digits_of 10 n)) ∙ number_digits_of 10 n (lit≤ tt))
 
-unfolding fraction_text
-
-unfolding fraction_text
-
 record Fraction (places n : ℕ) : Type 0 where
   digits : list_all is_digit (fraction_text places n) ≡ true
   short : length (fraction_text places n) ≤ places
