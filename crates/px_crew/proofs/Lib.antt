@@ -1,0 +1,4 @@
+pub mod Numbering
+pub mod Pairs
+pub mod Parts
+pub mod Turns
