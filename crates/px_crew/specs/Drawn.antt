@@ -1,5 +1,5 @@
 -- Numbers that seats draw from one word, each once.
-use Rattle.std.specs.Prelude.{◌≡◌, ℕ, ◌+◌, ◌<◌, ◌≤◌, eqb, leb, suc, List, [], ◌∷◌, ◌++◌}
+use Rattle.std.specs.Prelude.{◌≡◌, ℕ, ◌+◌, ◌-◌, ◌<◌, ◌≤◌, eqb, leb, suc, List, [], ◌∷◌, ◌++◌}
 use mathlib.Core.Option.{some}
 use lib.ListN.{get_elem?}
 use Rattle.atomic_table.specs.Seated.{TableId}
@@ -23,6 +23,10 @@ pub record WordName : Type 0 where
 pub record Seated : Type 0 where
   pub table : TableId
   pub hand : Hand
+
+-- what a drawer knows of which another was cut off
+abbrev pub one_part_less : Hand → Hand
+one_part_less v = hand (v.parts - 1) v.drawn v.ends
 
 -- what a drawer knows that took in another
 abbrev pub both : Hand → Hand → Hand
@@ -61,3 +65,7 @@ pub record Drew (quota : Quota) (v : Hand) (n : ℕ) (w : Hand) : Type 0 where
 -- who has every part learns that it drew each number below the word once, and who drew a number that is not below the limit that the word is above it
 abbrev pub Learnt : Quota → Hand → ℕ → Hand → Type 0
 Learnt quota v n w = (w ≡ v) × (v.parts ≡ quota.parts → (x : ℕ) → times x v.drawn ≡ once_below x n) × (0 < v.ends → quota.limit < n)
+
+-- a drawer of this word that has not met the limit
+abbrev pub MayDraw : WordName → Seated → Type 0
+MayDraw draws drawer = (drawer.table ≡ draws.table) × (0 < drawer.hand.parts) × (drawer.hand.ends ≡ 0)

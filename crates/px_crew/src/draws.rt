@@ -1,13 +1,14 @@
 //! Drawing a number.
-ghost use Rattle.std.specs.Prelude.{◌≡◌, ◌+◌, ◌-◌, ◌<◌, ◌^◌, ℕ, [], IfOk};
-ghost use Rattle.px_crew.specs.Drawn.{Drew, hand, both, once_below, times};
+ghost use Rattle.std.specs.Prelude.{◌≡◌, ◌+◌, ◌<◌, ◌^◌, ℕ, [], IfOk};
+ghost use Rattle.px_crew.specs.Drawn.{Drew, hand, one_part_less, both, once_below, times};
 
 use crate::rule::{Quota, Token};
 use crate::source::Source;
 use std::alloc::{AllocError, Global};
 use std::marker::{Brand, Model};
 
-/// A word from which threads draw the numbers from 0. Contracts see which table it is, and its quota.
+/// A word from which threads draw the numbers from 0. Contracts see which table it is, and its
+/// quota.
 #[derive(Drop)]
 pub struct Draws {
     source: Source,
@@ -18,7 +19,10 @@ impl Model for Draws {
 
     ghost Value = { WordName };
 
-    ghost view = { λ draws. record { table = draws.source.word.shared.table_id; quota = draws.source.quota } };
+    ghost view = { λ draws. record {
+      table = draws.source.word.shared.table_id;
+      quota = draws.source.quota;
+    } };
 }
 
 /// The token with which a thread draws. Contracts see its table and what it drew.
@@ -43,7 +47,8 @@ impl Draws {
     pub fn create(alloc: Global, quota: Quota) -> Result<(Draws, Drawer), AllocError>
         requires room { quota.limit + quota.parts + 1 < 2 ^ 64 }
         ensures quota { IfOk result (λ made. made.0.quota ≡ quota) }
-        ensures drawer { IfOk result (λ made. (made.1.table ≡ made.0.table) × (made.1.hand ≡ hand quota.parts [] 0)) }
+        ensures table { IfOk result (λ made. made.1.table ≡ made.0.table) }
+        ensures drawer { IfOk result (λ made. made.1.hand ≡ hand quota.parts [] 0) }
     {
         let (source, token) = Source::create(alloc, quota)?;
         Ok((Draws { source }, Drawer { token }))
@@ -54,16 +59,17 @@ impl Draws {
         requires table { drawer.old.table ≡ self.now.table }
         requires parts { 1 < drawer.old.hand.parts }
         requires going { drawer.old.hand.ends ≡ 0 }
-        ensures left { (drawer.new.table ≡ drawer.old.table) × (drawer.new.hand ≡ hand (drawer.old.hand.parts - 1) drawer.old.hand.drawn drawer.old.hand.ends) }
-        ensures right { (result.table ≡ drawer.old.table) × (result.hand ≡ hand 1 [] 0) }
+        ensures table { (drawer.new.table ≡ drawer.old.table) × (result.table ≡ drawer.old.table) }
+        ensures left { drawer.new.hand ≡ one_part_less drawer.old.hand }
+        ensures right { result.hand ≡ hand 1 [] 0 }
     {
         Drawer {
             token: self.source.share(&mut drawer.token),
         }
     }
 
-    /// Draws the next number. It is above all that the drawer drew before. A drawer that was given a
-    /// number that is not below the limit has met the limit, and draws no more.
+    /// Draws the next number. It is above all that the drawer drew before. A drawer that was given
+    /// a number that is not below the limit has met the limit, and draws no more.
     pub fn draw(&self, drawer: &mut Drawer) -> u64
         requires table { drawer.old.table ≡ self.now.table }
         requires part { 0 < drawer.old.hand.parts }

@@ -74,10 +74,10 @@ impl<K: Known> Play<(), Hand> for Learning<K> {
 pub(crate) struct Sharing;
 
 impl Split<Hand> for Sharing {
-    ghost use Rattle.px_crew.specs.Drawn.{hand};
-    ghost use Rattle.std.specs.Prelude.{◌-◌, []};
+    ghost use Rattle.px_crew.specs.Drawn.{hand, one_part_less};
+    ghost use Rattle.std.specs.Prelude.{[]};
 
-    ghost left = { λ v. hand (v.parts - 1) v.drawn v.ends };
+    ghost left = { one_part_less };
 
     ghost right = { λ _. hand 1 [] 0 };
 }

@@ -1,5 +1,6 @@
 //! Numbers drawn by one thread and by several.
 ghost use Rattle.std.specs.Prelude.{◌≡◌, ◌<◌, true, MatchOption};
+ghost use Rattle.px_crew.specs.Drawn.{MayDraw};
 
 use crate::draws::{Drawer, Draws};
 use crate::rule::Quota;
@@ -8,11 +9,13 @@ use std::alloc::{AllocError, Global};
 use std::test::Fail;
 use std::thread::Threads;
 
-/// The next number, where it is below the limit.
+// The next number, where it is below the limit.
 fn next(draws: &Draws, drawer: &mut Drawer, limit: u64) -> Option<u64>
     requires limit { draws.now.quota.limit ≡ limit }
-    requires drawer { (drawer.old.table ≡ draws.now.table) × (0 < drawer.old.hand.parts) × (drawer.old.hand.ends ≡ 0) }
-    ensures same { (drawer.new.table ≡ drawer.old.table) × (drawer.new.hand.parts ≡ drawer.old.hand.parts) }
+    requires table { drawer.old.table ≡ draws.now.table }
+    requires draws { (0 < drawer.old.hand.parts) × (drawer.old.hand.ends ≡ 0) }
+    ensures table { drawer.new.table ≡ drawer.old.table }
+    ensures parts { drawer.new.hand.parts ≡ drawer.old.hand.parts }
     ensures ends { MatchOption result (drawer.new.hand.ends ≡ 1) (λ _. drawer.new.hand.ends ≡ 0) }
 {
     let number = draws.draw(drawer);
@@ -56,10 +59,10 @@ struct Round<'a> {
 }
 
 impl Round<'_> {
-    /// Draws a number into the basket. It tells whether there was one below the limit, and room.
+    // Draws a number into the basket. It tells whether there was one below the limit, and room.
     fn fill(&self, basket: &mut Basket) -> bool
-        requires drawer { (basket.old.drawer.table ≡ self.now.draws.now.table) × (0 < basket.old.drawer.hand.parts) × (basket.old.drawer.hand.ends ≡ 0) }
-        ensures drawer { result ≡ true → (basket.new.drawer.table ≡ self.now.draws.now.table) × (0 < basket.new.drawer.hand.parts) × (basket.new.drawer.hand.ends ≡ 0) }
+        requires drawer { MayDraw self.now.draws.now basket.old.drawer }
+        ensures drawer { result ≡ true → MayDraw self.now.draws.now basket.new.drawer }
     {
         match next(self.draws, &mut basket.drawer, self.limit) {
             Some(number) => basket.numbers.push(number).is_ok(),
@@ -69,9 +72,9 @@ impl Round<'_> {
 }
 
 impl Crew<u64, Basket> for Round<'_> {
-    ghost use Rattle.std.specs.Prelude.{◌≡◌, ◌<◌};
+    ghost use Rattle.px_crew.specs.Drawn.{MayDraw};
 
-    ghost ready = { λ round basket. (basket.drawer.table ≡ round.draws.now.table) × (0 < basket.drawer.hand.parts) × (basket.drawer.hand.ends ≡ 0) };
+    ghost ready = { λ round basket. MayDraw round.draws.now basket.drawer };
 
     ghost worked = { λ round v a w b. Unit {0} };
 
@@ -85,7 +88,7 @@ impl Crew<u64, Basket> for Round<'_> {
     }
 }
 
-/// How often each number below the limit was drawn by three workers, and how many each drew.
+// How often each number below the limit was drawn by three workers, and how many each drew.
 fn shares(
     rt: &(impl Threads + Sync),
     alloc: Global,

@@ -62,12 +62,18 @@ fn run_halves<P: Send, W: Send, C: Crew<P, W> + Sync, R: Threads + Sync>(
     ensures back { AllWorked (C.worked crew.now) back.old last.old back.new last.new }
 {
     let mut one = ||
-        requires { IsSync R.row × IsSync C.row × IsSend P.row × IsSend W.row × (length front.now ≡ length first.now) × AllReady (C.ready crew.now) first.now }
-        ensures { AllWorked (C.worked crew.entry.now) front.entry.now first.entry.now front.exit.now first.exit.now }
+        requires cross { IsSync R.row × IsSync C.row × IsSend P.row × IsSend W.row }
+        requires pairs { length front.now ≡ length first.now }
+        requires ready { AllReady (C.ready crew.now) first.now }
+        ensures { AllWorked (C.worked crew.entry.now)
+            front.entry.now first.entry.now front.exit.now first.exit.now }
     { run_crew(rt, crew, front, first) };
     let mut two = ||
-        requires { IsSync R.row × IsSync C.row × IsSend P.row × IsSend W.row × (length back.now ≡ length last.now) × AllReady (C.ready crew.now) last.now }
-        ensures { AllWorked (C.worked crew.entry.now) back.entry.now last.entry.now back.exit.now last.exit.now }
+        requires cross { IsSync R.row × IsSync C.row × IsSend P.row × IsSend W.row }
+        requires pairs { length back.now ≡ length last.now }
+        requires ready { AllReady (C.ready crew.now) last.now }
+        ensures { AllWorked (C.worked crew.entry.now)
+            back.entry.now last.entry.now back.exit.now last.exit.now }
     { run_crew(rt, crew, back, last) };
     join_mut(rt, &mut one, &mut two);
 }

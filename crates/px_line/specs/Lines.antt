@@ -58,6 +58,10 @@ module _ {T : Type 0} where
   abbrev pub with_ended : Known T → ℕ → List T → Known T
   with_ended v f all = known v.parts v.alone v.gives v.makes v.given v.taken ((f, all) ∷ v.ended)
 
+  -- what a seat may do is as before
+  abbrev pub Keeps : Known T → Known T → Type 0
+  Keeps v w = (w.parts ≡ v.parts) × (w.alone ≡ v.alone) × (w.gives ≡ v.gives) × (w.makes ≡ v.makes) × (w.ended ≡ v.ended)
+
   -- the items of one giver
   abbrev pub of : (T → ℕ) → ℕ → List T → List T
   of giver f [] = []

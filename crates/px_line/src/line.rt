@@ -1,6 +1,7 @@
 //! The line, and the seats of those who give and take.
 ghost use Rattle.std.specs.Prelude.{◌≡◌, ◌<◌, ◌-◌, None, Some, IfOk, MatchResult, MatchOption};
-ghost use Rattle.px_line.specs.Lines.{first, made, new_giver, new_taker, cut, number_of, HasNumber, with_given, with_taker, with_ended, Takes, Waits, Learns, Held};
+ghost use Rattle.px_line.specs.Lines.{first, made, new_giver, new_taker, cut, number_of, HasNumber};
+ghost use Rattle.px_line.specs.Lines.{with_given, with_taker, with_ended, Keeps, Takes, Waits, Learns, Held};
 
 use crate::queue;
 use crate::queue::{Queue, Token};
@@ -21,7 +22,10 @@ impl<T: Item> Model for Line<T> {
 
     ghost Value = { LineName };
 
-    ghost view = { λ line. record { table = line.queue.table.shared.table_id; capacity = ruled_capacity line.queue } };
+    ghost view = { λ line. record {
+      table = line.queue.table.shared.table_id;
+      capacity = ruled_capacity line.queue;
+    } };
 }
 
 /// A seat at a line: what its holder may do there. Contracts see its line and what it knows.
@@ -47,7 +51,8 @@ impl<T: Item> Line<T> {
     pub fn create(alloc: Global, capacity: u32) -> Result<(Line<T>, Seat<T>), AllocError>
         requires some { 0 < capacity }
         ensures capacity { IfOk result (λ opened. opened.0.capacity ≡ capacity) }
-        ensures seat { IfOk result (λ opened. (opened.1.table ≡ opened.0.table) × (opened.1.knows ≡ first)) }
+        ensures table { IfOk result (λ opened. opened.1.table ≡ opened.0.table) }
+        ensures seat { IfOk result (λ opened. opened.1.knows ≡ first) }
     {
         let (queue, token) = queue::create(alloc, capacity)?;
         Ok((Line { queue }, Seat { token }))
@@ -83,12 +88,15 @@ impl<T: Item> Line<T> {
     /// call, and then nothing was given.
     pub fn give<R: Wait>(&self, rt: &R, seat: &mut Seat<T>, item: T) -> Result<(), T>
         requires table { seat.old.table ≡ self.now.table }
-        requires giver { (seat.old.knows.gives ≡ Some (T.giver item)) × (seat.old.knows.makes ≡ None) }
+        requires giver { seat.old.knows.gives ≡ Some (T.giver item) }
+        requires only { seat.old.knows.makes ≡ None }
         requires next { T.next seat.old.knows.given item }
         ensures table { seat.new.table ≡ seat.old.table }
+        ensures keeps { Keeps seat.old.knows seat.new.knows }
         ensures given { MatchResult result
             (λ _. seat.new.knows ≡ with_given seat.old.knows item)
-            (λ back. (back ≡ item) × (seat.new.knows ≡ seat.old.knows) × Held self.now.capacity (Waits T.giver seat.old.knows)) }
+            (λ back. (back ≡ item) × (seat.new.knows ≡ seat.old.knows) ×
+            Held self.now.capacity (Waits T.giver seat.old.knows)) }
     {
         queue::give(&self.queue, rt, &mut seat.token, item)
     }
@@ -99,6 +107,7 @@ impl<T: Item> Line<T> {
         requires table { seat.old.table ≡ self.now.table }
         requires part { 0 < seat.old.knows.parts }
         ensures table { seat.new.table ≡ seat.old.table }
+        ensures keeps { Keeps seat.old.knows seat.new.knows }
         ensures taken { MatchOption result
             ((seat.new.knows ≡ seat.old.knows) × Held 0 (Learns T.giver T.next seat.old.knows))
             (λ item. Takes T.giver T.next seat.old.knows item seat.new.knows) }
@@ -121,7 +130,8 @@ impl<T: Item> Line<T> {
         requires tables { (seat.old.table ≡ self.now.table) × (giver.table ≡ self.now.table) }
         requires giver { HasNumber giver.knows.gives × (giver.knows.parts ≡ 0) }
         ensures table { seat.new.table ≡ seat.old.table }
-        ensures ended { seat.new.knows ≡ with_ended seat.old.knows (number_of giver.knows.gives) giver.knows.given }
+        ensures ended { seat.new.knows ≡
+            with_ended seat.old.knows (number_of giver.knows.gives) giver.knows.given }
     {
         let Seat { token } = giver;
         queue::end(&self.queue, &mut seat.token, token);

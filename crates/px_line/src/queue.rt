@@ -1,7 +1,8 @@
 //! The steps on the base's own queue, each with what it owes the rule.
 ghost use Rattle.std.specs.Prelude.{◌≡◌, ◌<◌, ◌≤◌, ◌-◌, None, Some, IfOk, MatchResult, MatchOption};
 ghost use Rattle.crossbeam_queue.specs.Passes.{view, IsPassOf, ruled_capacity};
-ghost use Rattle.px_line.specs.Lines.{first, made, new_giver, new_taker, cut, number_of, HasNumber, with_given, with_taker, with_ended, Takes, Waits, Learns, Held};
+ghost use Rattle.px_line.specs.Lines.{first, made, new_giver, new_taker, cut, number_of, HasNumber};
+ghost use Rattle.px_line.specs.Lines.{with_given, with_taker, with_ended, Keeps, Takes, Waits, Learns, Held};
 
 use crate::rule::{Givers, Gives, InLine, Item, Known, Takers, Taking};
 use crossbeam_queue::{Pass, RuledArrayQueue};
@@ -50,12 +51,15 @@ pub(crate) fn give<T: Item, R: Wait>(
     item: T,
 ) -> Result<(), T>
     requires of { IsPassOf queue.now token.old }
-    requires giver { ((view token.old).gives ≡ Some (T.giver item)) × ((view token.old).makes ≡ None) }
+    requires giver { (view token.old).gives ≡ Some (T.giver item) }
+    requires only { (view token.old).makes ≡ None }
     requires next { T.next (view token.old).given item }
     ensures of { IsPassOf queue.now token.new }
+    ensures keeps { Keeps (view token.old) (view token.new) }
     ensures given { MatchResult result
         (λ _. view token.new ≡ with_given (view token.old) item)
-        (λ back. (back ≡ item) × (view token.new ≡ view token.old) × Held (ruled_capacity queue.now) (Waits T.giver (view token.old))) }
+        (λ back. (back ≡ item) × (view token.new ≡ view token.old) ×
+        Held (ruled_capacity queue.now) (Waits T.giver (view token.old))) }
 {
     queue.push_as::<Gives, R>(rt, token, item)
 }
@@ -64,6 +68,7 @@ pub(crate) fn take<T: Item, R: Wait>(queue: &Queue<T>, rt: &R, token: &mut Token
     requires of { IsPassOf queue.now token.old }
     requires part { 0 < (view token.old).parts }
     ensures of { IsPassOf queue.now token.new }
+    ensures keeps { Keeps (view token.old) (view token.new) }
     ensures taken { MatchOption result
         ((view token.new ≡ view token.old) × Held 0 (Learns T.giver T.next (view token.old)))
         (λ item. Takes T.giver T.next (view token.old) item (view token.new)) }
@@ -83,7 +88,8 @@ pub(crate) fn end<T: Item>(queue: &Queue<T>, token: &mut Token<T>, other: Token<
     requires of { IsPassOf queue.now token.old × IsPassOf queue.now other }
     requires giver { HasNumber (view other).gives × ((view other).parts ≡ 0) }
     ensures of { IsPassOf queue.now token.new }
-    ensures ended { view token.new ≡ with_ended (view token.old) (number_of (view other).gives) (view other).given }
+    ensures ended { view token.new ≡
+        with_ended (view token.old) (number_of (view other).gives) (view other).given }
 {
     queue.absorb::<Givers>(token, other);
 }
