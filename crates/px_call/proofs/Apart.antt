@@ -1,5 +1,5 @@
 -- A step whose word is kept has no cause to be the call's own, and the same step has the same numbers.
-use Rattle.std.proofs.Common.{◌≡◌, ℕ, ◌+◌, ◌*◌, ◌<◌, Bool, true, false, List, take, refl, sym, ap, ◌∙◌, subst, arith}
+use Rattle.std.proofs.Common.{◌≡◌, ℕ, ◌+◌, ◌*◌, Bool, true, false, List, take, refl, ◌∙◌, subst, arith}
 use Rattle.px_text.specs.declared.op.Op.{Op}
 use Rattle.px_text.specs.Operands.{Operand, index, set_of, first_is_set, second_is_set}
 use Rattle.px_afa.specs.Steps.{Step}
@@ -9,7 +9,7 @@ use Rattle.px_rule.specs.declared.view.Found.{Found}
 use Rattle.px_rule.specs.Kinds.{kind_of}
 use Rattle.px_rule.specs.Words.{Small, step_word, key_of}
 use Rattle.px_rule.specs.Known.{Stands, plain, named, answered}
-use Rattle.px_rule.specs.Kept.{KeptAt, NoneKept, Tells, Sound}
+use Rattle.px_rule.specs.Kept.{NoneKept, Tells, Sound}
 use Rattle.px_rule.proofs.Apart.{one_name, kept_apart, set_apart}
 use Rattle.px_call.specs.Steps.{Same, Numbered, StepKept, OperandBlocked, Cause, by_first, by_second, by_answer, by_key}
 

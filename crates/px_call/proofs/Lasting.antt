@@ -1,5 +1,5 @@
 -- What a view shows of steps and of words lasts over all calls of its seat.
-use Rattle.std.proofs.Common.{◌≡◌, ◌⊎◌, ℕ, suc, true, List, ◌∷◌, All, sym, ap, subst}
+use Rattle.std.proofs.Common.{ℕ, suc, true, List, ◌∷◌, All}
 use Rattle.std.proofs.lemmas.List.Elements.{All-weaker}
 use Rattle.px_text.specs.declared.op.Op.{Op}
 use Rattle.px_text.specs.Operands.{Operand, index, set_of, first_is_set, second_is_set}
@@ -7,7 +7,7 @@ use Rattle.px_afa.specs.Steps.{Step}
 use Rattle.px_rule.specs.declared.shape.Shape.{Shape}
 use Rattle.px_rule.specs.declared.view.View.{View}
 use Rattle.px_rule.specs.Words.{step_word}
-use Rattle.px_rule.specs.Kept.{Since, SetBlocked, SuffixWord}
+use Rattle.px_rule.specs.Kept.{Since, SuffixWord}
 use Rattle.px_rule.proofs.Since as view
 use Rattle.px_rule.proofs.Since.{tells_since, key_since, gap_since, blocked_since}
 use Rattle.px_call.specs.Steps.{Numbered, StepKept, StepComputed, OperandBlocked, Cause, by_first, by_second, by_answer, by_key}

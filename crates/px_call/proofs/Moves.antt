@@ -1,5 +1,5 @@
 -- One step more, or one set more.
-use Rattle.std.proofs.Common.{◌≡◌, ◌⊎◌, ℕ, ◌+◌, ◌<◌, ◌≤◌, List, [], ◌∷◌, ◌++◌, map, reverse, Option, Some, None, All, take, refl, sym, ap, ◌∙◌, subst, arith, inl, inr, ⊎_elim}
+use Rattle.std.proofs.Common.{◌≡◌, ◌⊎◌, ℕ, ◌+◌, ◌<◌, ◌≤◌, List, [], ◌∷◌, ◌++◌, map, Option, Some, None, take, refl, sym, ap, ◌∙◌, subst, arith, inl, inr, ⊎_elim}
 use Rattle.std.proofs.lemmas.List.{reverse-append}
 use Rattle.std.proofs.lemmas.List.Elements.{All-nil, All-cons, All-weaker}
 use Rattle.px_text.specs.declared.op.Op.{Op}
@@ -7,14 +7,13 @@ use Rattle.px_text.specs.Operands.{Operand}
 use Rattle.px_afa.specs.Steps.{Step}
 use Rattle.px_rule.specs.declared.shape.Shape.{Shape}
 use Rattle.px_rule.specs.declared.view.View.{View}
-use Rattle.px_rule.specs.declared.view.Found.{Found}
 use Rattle.px_rule.specs.Kept.{IsAt, Grew, Since, Wrote, KeyBlocked, Sound, SetBlocked, SuffixWord}
 use Rattle.px_rule.proofs.Since.{since_grew, since_trans, key_since, blocked_since}
 use Rattle.px_rule.proofs.Sounds.{wrote_none, wrote_on}
 use Rattle.px_call.specs.declared.tally.Tally.{Tally}
 use Rattle.px_call.specs.Steps.{Same, StepKept, StepComputed, Cause, WordFor, as_suffix, as_step, by_answer}
 use Rattle.px_call.specs.Outcomes.{first_full, OneMore, Reads, Computes, KeyFull, SetFull}
-use Rattle.px_call.specs.Counted.{Fate, found, computed, own, Mark, step_of, is_found, is_computed, is_own, times, IsInBank, Among, Shows, IsNew, SetOf, of_answer, of_held, WordOf, of_set, of_step, Counted, Counts}
+use Rattle.px_call.specs.Counted.{Fate, found, computed, own, Mark, step_of, is_found, is_computed, is_own, times, IsInBank, Among, Shows, IsNew, of_answer, of_held, WordOf, of_set, of_step, Counted, Counts}
 use Rattle.px_call.proofs.Lasting.{kept_since, all_show_since, word_since, among_more, among_same}
 use Rattle.px_call.proofs.Apart.{none_apart}
 

@@ -1,5 +1,5 @@
 -- The counts between two views inside a bank are those between views outside that know the same.
-use Rattle.std.proofs.Common.{◌≡◌, ◌⊎◌, ℕ, ◌+◌, ◌<◌, ◌≤◌, List, [], ◌∷◌, ◌++◌, map, All, take, refl, sym, ap, ◌∙◌, subst, ⊎_elim, inl, inr}
+use Rattle.std.proofs.Common.{ℕ, ◌+◌, ◌<◌, ◌≤◌, List, [], ◌∷◌, ◌++◌, map, take, sym, ap, ◌∙◌, subst, ⊎_elim, inl, inr}
 use Rattle.std.proofs.lemmas.List.Elements.{All-weaker}
 use Rattle.px_text.specs.declared.op.Op.{Op}
 use Rattle.px_text.specs.Operands.{Operand}
@@ -10,11 +10,10 @@ use Rattle.px_rule.specs.declared.view.Found.{Found}
 use Rattle.px_rule.specs.Words.{nodes_of, steps_of, path_of, long_of}
 use Rattle.px_rule.specs.Known.{Agrees}
 use Rattle.px_rule.specs.RightBanks.{RightBank}
-use Rattle.px_rule.specs.Kept.{IsAt, Since, Wrote, Sound, SetBlocked}
+use Rattle.px_rule.specs.Kept.{IsAt, Since, Sound, SetBlocked}
 use Rattle.px_rule.proofs.Since.{since_idle, since_trans, key_since, blocked_since}
 use Rattle.px_rule.proofs.Sounds.{wrote_none, wrote_on}
 use Rattle.px_call.specs.declared.tally.Tally.{Tally}
-use Rattle.px_call.specs.Steps.{StepComputed}
 use Rattle.px_call.specs.Counted.{Fate, found, computed, own, Mark, step_of, Among, Shows, IsNew, EachNew, WordOf, Counted, Counts}
 use Rattle.px_call.specs.Laws.{KnowTheSame}
 use Rattle.px_call.proofs.Lasting.{kept_since, all_show_since, word_since, among_same}

@@ -15,7 +15,7 @@ use Rattle.px_runner.specs.Events.{ground, events_steps}
 use Rattle.px_runner.specs.Running.{HasRun, held_by}
 use Rattle.px_call.specs.declared.tally.Tally.{Tally}
 use Rattle.px_call.specs.Counted.{Counts}
-use Rattle.px_call.specs.Memory.{memory, program_of, StandsFor, IsProgramAt}
+use Rattle.px_call.specs.Memory.{memory, program_of, StandsFor}
 
 -- the sets that some events give to hold
 abbrev pub held_in : List Event → List (List ℕ)
