@@ -10,3 +10,4 @@ pub mod Written
 pub mod Numerals
 pub mod ReadBack
 pub mod Incoming
+pub mod OneOpening

@@ -8,7 +8,7 @@ use Rattle.px_explain.specs.declared.reading.ProofFault.{ProofFault}
 use Rattle.px_explain.specs.declared.reading.ProofFault.TheVariants.{NotAProof, TooMany, Memory}
 use Rattle.px_explain.specs.Bounds.{has_above, AreSmall}
 use Rattle.px_explain.specs.Lines.{node_of}
-use Rattle.px_explain.specs.Texts.{words, text_of, BeginsWithLine}
+use Rattle.px_explain.specs.Texts.{words, line, text_of, BeginsWithLine}
 use Rattle.px_explain.specs.Refusing.{Refuses}
 use Rattle.px_explain.proofs.Numerals.{words_no_feed, split_once, node_words}
 
@@ -19,33 +19,33 @@ none_of true b h = absurd (apart h)
     apart e = cc
 none_of false b h = (refl, h)
 
+-- the first lines of the same bytes are the same
+pub same_line : (x y : ProofNode) (xs ys : List ℕ) → has_above 4_294_967_295 x ≡ false → has_above 4_294_967_295 y ≡ false → line x ++ xs ≡ line y ++ ys → (x ≡ y) × (xs ≡ ys)
+same_line x y xs ys f g e =
+    let cut = split_once (words x) (words y) xs ys (words_no_feed x f) (words_no_feed y g) (sym (append_assoc (words x) (10 ∷ []) xs) ∙ e ∙ append_assoc (words y) (10 ∷ []) ys) in
+    (one (sym (node_words x f) ∙ ap node_of cut.0 ∙ node_words y g), cut.1)
+  where
+    one : {a b : ProofNode} → Some a ≡ Some b → a ≡ b
+    one e = cc
+
+-- one line more in front of both
+pub joined : (x y : ProofNode) (front nodes tail : List ProofNode) → x ≡ y → nodes ≡ front ++ tail → (y ∷ nodes) ≡ (x ∷ front) ++ tail
+joined x y front nodes tail e f = ap (λ (z : ProofNode). z ∷ nodes) (sym e) ∙ ap (λ (zs : List ProofNode). x ∷ zs) f
+
 -- what a text's lines begin with
 pub fronts : (front nodes : List ProofNode) (rest : List ℕ) → AreSmall front → AreSmall nodes → text_of front ++ rest ≡ text_of nodes →
     (tail : List ProofNode) × (nodes ≡ front ++ tail) × (rest ≡ text_of tail)
 fronts [] nodes rest f n e = (nodes, refl, e)
-fronts (x ∷ front) [] rest f n e = absurd (not_nil (words x) (text_of front ++ rest) (regroup (words x) (text_of front) rest ∙ e))
+fronts (x ∷ front) [] rest f n e = absurd (not_nil (words x) (text_of front) rest e)
   where
-    regroup : (w t r : List ℕ) → w ++ 10 ∷ (t ++ r) ≡ ((w ++ 10 ∷ []) ++ t) ++ r
-    regroup w t r = sym (append_assoc (w ++ 10 ∷ []) t r ∙ append_assoc w (10 ∷ []) (t ++ r))
-
-    not_nil : (w r : List ℕ) → w ++ 10 ∷ r ≡ [] → ⊥
-    not_nil w r e = omega (arith, simp length-append at (ap length e))
+    not_nil : (w t r : List ℕ) → ((w ++ 10 ∷ []) ++ t) ++ r ≡ [] → ⊥
+    not_nil w t r e = omega (arith, simp length-append at (ap length e))
 fronts (x ∷ front) (y ∷ nodes) rest f n e =
     let p = none_of (has_above 4_294_967_295 x) (list_any (has_above 4_294_967_295) front) f in
     let q = none_of (has_above 4_294_967_295 y) (list_any (has_above 4_294_967_295) nodes) n in
-    let cut = split_once (words x) (words y) (text_of front ++ rest) (text_of nodes) (words_no_feed x p.0) (words_no_feed y q.0)
-    (regroup (words x) (text_of front) rest ∙ e ∙ append_assoc (words y) (10 ∷ []) (text_of nodes)) in
-    let more = fronts front nodes rest p.1 q.1 cut.1 in
-    (more.0, joined x y front nodes more.0 (one (sym (node_words x p.0) ∙ ap node_of cut.0 ∙ node_words y q.0)) more.1, more.2)
-  where
-    regroup : (w t r : List ℕ) → w ++ 10 ∷ (t ++ r) ≡ ((w ++ 10 ∷ []) ++ t) ++ r
-    regroup w t r = sym (append_assoc (w ++ 10 ∷ []) t r ∙ append_assoc w (10 ∷ []) (t ++ r))
-
-    one : {a b : ProofNode} → Some a ≡ Some b → a ≡ b
-    one e = cc
-
-    joined : (x y : ProofNode) (front nodes tail : List ProofNode) → x ≡ y → nodes ≡ front ++ tail → (y ∷ nodes) ≡ (x ∷ front) ++ tail
-    joined x y front nodes tail e f = ap (λ (z : ProofNode). z ∷ nodes) (sym e) ∙ ap (λ (zs : List ProofNode). x ∷ zs) f
+    let same = same_line x y (text_of front ++ rest) (text_of nodes) p.0 q.0 (sym (append_assoc (line x) (text_of front) rest) ∙ e) in
+    let more = fronts front nodes rest p.1 q.1 same.1 in
+    (more.0, joined x y front nodes more.0 same.0 more.1, more.2)
 
 tail_nil : (tail : List ProofNode) → [] ≡ text_of tail → tail ≡ []
 tail_nil [] e = refl

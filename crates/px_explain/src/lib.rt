@@ -33,7 +33,7 @@ mod writer;
 pub use checker::{Checked, check};
 pub use explainer::explain;
 pub use fault::ExplainFault;
-pub use laws::{canonical_is_accepted, justified_is_so};
+pub use laws::{an_input_opens_one_way, canonical_is_accepted, justified_is_so};
 pub use lines::node_of;
 pub use node::ProofNode;
 pub use proof::Proof;

@@ -1,5 +1,5 @@
 -- Line after line of the piece is taken, and then what is left of it.
-use Rattle.std.proofs.Common.{◌+◌, ◌-◌, [], ◌∷◌, ◌++◌, true, false, Ok, length, take, drop, refl, ap, sym, append-nil, arith}
+use Rattle.std.proofs.Common.{◌+◌, ◌-◌, [], ◌∷◌, ◌++◌, Ok, length, take, drop, ap, sym, append-nil, arith}
 use Rattle.px_explain.proofs.Incoming.{takes_none, takes_more, takes_all, takes_fault, takes_end, cut_line, cut_part, part_has_none, all_has_none}
 use Rattle.px_explain.proofs.proof_reader.ProofReader.feed.Goals as goal
 
