@@ -14,6 +14,8 @@ use Rattle.px_explain.specs.Table.{Claim, Path, Each, OneOf, Candidate, nth, lis
 use Rattle.px_explain.specs.Canonical as why
 use Rattle.px_explain.specs.Canonical.{least, rest_fails, is_answer, canonical}
 use Rattle.px_explain.proofs.Sound.{one_passes, one_fails, one_holds}
+use Rattle.std.proofs.lemmas.Bool.{and_parts, or_parts}
+use Rattle.std.proofs.lemmas.Option.{none-some}
 
 -- the canonical proof of a path, and of a condition, is accepted in front of anything
 abbrev pub OkPath : Way → (Place → Bool) → Place → Type 0
@@ -28,14 +30,6 @@ OkConditions cs = (i : ℕ) (c : Condition) → nth (list cs) i ≡ Some c → O
 pub behind_first : (c : Condition) (cs : Conditions) → OkConditions (CondThen c cs) → OkConditions cs
 behind_first c cs ok zero d e = cc
 behind_first c cs ok (suc i) d e = ok (suc (suc i)) d e
-
-and_parts : (a b : Bool) → (a && b) ≡ true → (a ≡ true) × (b ≡ true)
-and_parts true b h = (refl, h)
-and_parts false b h = cc
-
-or_parts : (a b : Bool) → (a || b) ≡ false → (a ≡ false) × (b ≡ false)
-or_parts true b h = cc
-or_parts false b h = (refl, h)
 
 -- accepted, where the answer is known
 known : (c : Condition) → OkCondition c → (x : Place) (answer : Bool) → meaning.condition_holds c x ≡ answer →
@@ -282,9 +276,6 @@ not_ok : (c : Condition) → OkCondition c → OkCondition (Fails c)
 not_ok c ok x gs ns =
     ap (λ (b : Bool). left (claim b x c ∷ gs) (why.condition c x ++ ns)) (not_twice (meaning.condition_holds c x)) ∙ ok x gs ns
 
-nothing : {A : Type 0} (x : A) → None ≡ Some x → ⊥
-nothing x e = cc
-
 mutual
   pub rest_all : (w : Way) → steps_proper w ≡ true → (end : Place → Bool) (y : Place) → OkRest w end y
   rest_all Arrived h end y = tt
@@ -303,9 +294,9 @@ mutual
   condition_ok (Fails c) h x = not_ok c (condition_ok c h) x
 
   pub conditions_ok : (cs : Conditions) → all_proper cs ≡ true → OkConditions cs
-  conditions_ok NoConditions h zero c e = absurd (nothing c e)
-  conditions_ok NoConditions h (suc i) c e = absurd (nothing c e)
-  conditions_ok (CondThen d cs) h zero c e = absurd (nothing c e)
+  conditions_ok NoConditions h zero c e = absurd (none-some c e)
+  conditions_ok NoConditions h (suc i) c e = absurd (none-some c e)
+  conditions_ok (CondThen d cs) h zero c e = absurd (none-some c e)
   conditions_ok (CondThen d cs) h (suc zero) c e =
       let same : d ≡ c = cc in subst OkCondition same (condition_ok d (and_parts (condition_proper d) (all_proper cs) h).0)
   conditions_ok (CondThen d cs) h (suc (suc i)) c e = conditions_ok cs (and_parts (condition_proper d) (all_proper cs) h).1 (suc i) c e

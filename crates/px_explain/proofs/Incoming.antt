@@ -2,7 +2,7 @@
 use Rattle.std.proofs.Common.{◌≡◌, ◌≢◌, ◌<◌, ◌≤◌, ◌+◌, ◌-◌, ◌*◌, ℕ, arith, Bool, true, false, ◌&&◌, not, nat_eq, nat_lt, List, [], ◌∷◌, ◌++◌, append_assoc, append-nil, length, length-append, get_or, take, drop, refl, ap, ◌∙◌, sym, subst, eq-eqb, if◌then◌else◌, inl, Some, None, codes}
 use Rattle.std.specs.List.{list_any}
 use Rattle.std.specs.Cmp.Lexicographic.{pointwise}
-use Rattle.std.proofs.lemmas.Bool.{eqb-true, ltb-true, ltb-false}
+use Rattle.std.proofs.lemmas.Bool.{eqb-true, ltb-true, ltb-false, and_parts, and_from, or_parts}
 use Rattle.std.proofs.lemmas.Fmt.{length-decimal-le}
 use Rattle.std.proofs.lemmas.Grind.{flat_map-append}
 use Rattle.std.proofs.lemmas.List.Folds.{list_all-append}
@@ -18,37 +18,25 @@ use Rattle.px_explain.specs.Lines.{node_of}
 use Rattle.px_explain.specs.Openings.{AreLines, BeginsWithEnd, end_line, has_no_feed}
 use Rattle.px_explain.specs.Texts.{words, line, text_of, BeginsWithLine}
 use Rattle.px_explain.proofs.Bounded.{still_small}
-use Rattle.px_explain.proofs.ReadBack.{none_of}
 use Rattle.px_explain.proofs.Numerals.{no_feed, no_feed_is, no_words, split_once, words_node, front_before, front_no_feed, line_cut, behind_line}
-
-both : (a b : Bool) → (a && b) ≡ true → (a ≡ true) × (b ≡ true)
-both true b h = (refl, h)
-both false b h = absurd (apart h)
-  where
-    apart : false ≡ true → ⊥
-    apart e = cc
-
-both_true : (a b : Bool) → a ≡ true → b ≡ true → (a && b) ≡ true
-both_true true b h k = k
-both_true false b h k = h
 
 pub no_feed_of : (bs : List ℕ) → has_no_feed bs ≡ true → no_feed bs ≡ true
 no_feed_of bs h = no_feed_is bs ∙ h
 
 pub no_feed_both : (a b : List ℕ) → has_no_feed a ≡ true → has_no_feed b ≡ true → has_no_feed (a ++ b) ≡ true
-no_feed_both a b h k = list_all-append (λ (c : ℕ). not (nat_eq c 10)) a b ∙ both_true (has_no_feed a) (has_no_feed b) h k
+no_feed_both a b h k = list_all-append (λ (c : ℕ). not (nat_eq c 10)) a b ∙ and_from (has_no_feed a) (has_no_feed b) h k
 
 -- bytes without a line feed begin with none
 beyond : (xs more ys m : List ℕ) → has_no_feed xs ≡ true → length ys < length xs → xs ++ more ≡ ys ++ 10 ∷ m → ⊥
 beyond [] more ys m f l e = omega arith
 beyond (x ∷ xs) more [] m f l e =
     let head : x ≡ 10 = cc in
-    apart (sym (both (not (nat_eq x 10)) (has_no_feed xs) f).0 ∙ ap not (eq-eqb x 10 head))
+    apart (sym (and_parts (not (nat_eq x 10)) (has_no_feed xs) f).0 ∙ ap not (eq-eqb x 10 head))
   where
     apart : true ≡ false → ⊥
     apart g = cc
 beyond (x ∷ xs) more (y ∷ ys) m f l e =
-    beyond xs more ys m (both (not (nat_eq x 10)) (has_no_feed xs) f).1 (omega arith) (cc)
+    beyond xs more ys m (and_parts (not (nat_eq x 10)) (has_no_feed xs) f).1 (omega arith) (cc)
 
 numbered_short : (n : ℕ) → n ≤ 4_294_967_295 → length (decimal n) ≤ 10
 numbered_short n h = length-decimal-le 10 n (omega arith) (omega arith) (omega arith)
@@ -69,7 +57,7 @@ words_short Bang h = omega arith
 lines_short : (nodes : List ProofNode) → AreSmall nodes → length (text_of nodes) ≤ 13 * length nodes
 lines_short [] s = omega arith
 lines_short (node ∷ nodes) s =
-    let p = none_of (has_above 4_294_967_295 node) (list_any (has_above 4_294_967_295) nodes) s in
+    let p = or_parts (has_above 4_294_967_295 node) (list_any (has_above 4_294_967_295) nodes) s in
     let few = words_short node p.0 in
     let more = lines_short nodes p.1 in
     omega (arith, few, more, length-append (line node) (text_of nodes), length-append (words node) (10 ∷ []))
@@ -266,8 +254,8 @@ all_has_none text h = sym (no_feed_is text) ∙ front_no_feed text (λ i l e. h 
 -- bytes that are compared with `=`
 pub is_equals : (ws : List ℕ) → pointwise nat_eq ws (61 ∷ []) ≡ true → ws ≡ 61 ∷ []
 is_equals [] h = absurd (cc)
-is_equals (w ∷ []) h = ap (λ (b : ℕ). b ∷ []) (eqb-true w 61 (both (nat_eq w 61) true h).0)
-is_equals (w ∷ v ∷ ws) h = absurd (none (both (nat_eq w 61) false h).1)
+is_equals (w ∷ []) h = ap (λ (b : ℕ). b ∷ []) (eqb-true w 61 (and_parts (nat_eq w 61) true h).0)
+is_equals (w ∷ v ∷ ws) h = absurd (none (and_parts (nat_eq w 61) false h).1)
   where
     none : false ≡ true → ⊥
     none e = cc

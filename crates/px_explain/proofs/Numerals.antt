@@ -4,7 +4,7 @@ use Rattle.std.specs.Prelude.{◌||◌, nat_le, decimal}
 use Rattle.std.specs.List.{list_all}
 use Rattle.std.specs.Option.{option_and_then}
 use Rattle.std.specs.Int.Digits.{number_from_digits_after}
-use Rattle.std.proofs.lemmas.Bool.{eqb-true, leb-true, le-leb, le-ltb, ltb-false, ne_eqb}
+use Rattle.std.proofs.lemmas.Bool.{eqb-true, leb-true, le-leb, le-ltb, ltb-false, ne_eqb, and_parts}
 use Rattle.std.proofs.lemmas.List.{take-append-drop, get_or-take, take_all, length-take-le}
 use Rattle.std.proofs.lemmas.Str.Parse.{IsNumeralModel, numerals_by_fold}
 use Rattle.std.proofs.lemmas.Fmt.{digits_decimal, digits_value-decimal, decimal-digits_value, decimal_nonempty, first_decimal, length-decimal-le}
@@ -25,21 +25,14 @@ read_on n ds = number_from_digits_after 10 n (map (λ b. b - 48) ds)
 own : IsNumeralModel (λ ds. list_all is_digit ds ≡ true) value
 own = numerals_by_fold _ (search rules) read_on (search rules)
 
-and_true : (a b : Bool) → (a && b) ≡ true → (a ≡ true) × (b ≡ true)
-and_true true b h = (refl, h)
-and_true false b h = absurd (apart h)
-  where
-    apart : false ≡ true → ⊥
-    apart e = cc
-
 numeral_parts : (ds : List ℕ) → is_numeral ds ≡ true → (list_all is_digit ds ≡ true) × (0 < length ds) × (get_or ds 0 0 ≡ 48 → length ds ≡ 1)
 numeral_parts [] h = absurd (apart h)
   where
     apart : false ≡ true → ⊥
     apart e = cc
 numeral_parts (d ∷ ds) h =
-    let p = and_true (list_all is_digit (d ∷ ds) && nat_le (length (d ∷ ds)) 10) (is_empty ds || not (nat_eq d 48)) h in
-    ((and_true (list_all is_digit (d ∷ ds)) (nat_le (length (d ∷ ds)) 10) p.0).0, omega arith, alone ds p.1)
+    let p = and_parts (list_all is_digit (d ∷ ds) && nat_le (length (d ∷ ds)) 10) (is_empty ds || not (nat_eq d 48)) h in
+    ((and_parts (list_all is_digit (d ∷ ds)) (nat_le (length (d ∷ ds)) 10) p.0).0, omega arith, alone ds p.1)
   where
     alone : (es : List ℕ) → (is_empty es || not (nat_eq d 48)) ≡ true → d ≡ 48 → length (d ∷ es) ≡ 1
     alone [] q e = refl
@@ -54,7 +47,7 @@ number_exact ds n e = by_test (is_numeral ds && nat_le (value ds) 4_294_967_295)
     by_test : (b : Bool) → (is_numeral ds && nat_le (value ds) 4_294_967_295) ≡ b → cond b (Some (value ds)) None ≡ Some n → (ds ≡ decimal n) × (n ≤ 4_294_967_295)
     by_test true t f =
         let same : value ds ≡ n = cc in
-        let p = and_true (is_numeral ds) (nat_le (value ds) 4_294_967_295) t in
+        let p = and_parts (is_numeral ds) (nat_le (value ds) 4_294_967_295) t in
         let q = numeral_parts ds p.0 in
         let small = leb-true (value ds) 4_294_967_295 p.1 in
         (sym (decimal-digits_value own ds q.0 q.1 q.2 (omega arith)) ∙ ap decimal same, omega arith)
@@ -169,7 +162,7 @@ digits_no_feed : (ds : List ℕ) → list_all is_digit ds ≡ true → no_feed d
 unfolding no_feed
 digits_no_feed [] h = refl
 digits_no_feed (d ∷ ds) h =
-    let p = and_true (is_digit d) (list_all is_digit ds) h in
+    let p = and_parts (is_digit d) (list_all is_digit ds) h in
     let b = digit_between d p.0 in
     rw (ne_eqb d 10 (apart d b.0)) (digits_no_feed ds p.1)
   where
@@ -202,16 +195,16 @@ unfolding no_feed
 split_once [] [] x y p q e = (refl, cc)
 split_once [] (c ∷ b) x y p q e =
     let head : 10 ≡ c = cc in
-    let r = and_true (not (nat_eq c 10)) (no_feed b) q in
+    let r = and_parts (not (nat_eq c 10)) (no_feed b) q in
     absurd (true_not_false (sym r.0 ∙ ap not (eq-eqb c 10 (sym head))))
 split_once (c ∷ a) [] x y p q e =
     let head : c ≡ 10 = cc in
-    let r = and_true (not (nat_eq c 10)) (no_feed a) p in
+    let r = and_parts (not (nat_eq c 10)) (no_feed a) p in
     absurd (true_not_false (sym r.0 ∙ ap not (eq-eqb c 10 head)))
 split_once (c ∷ a) (d ∷ b) x y p q e =
     let head : c ≡ d = cc in
     let tail : a ++ 10 ∷ x ≡ b ++ 10 ∷ y = cc in
-    let r = split_once a b x y (and_true (not (nat_eq c 10)) (no_feed a) p).1 (and_true (not (nat_eq d 10)) (no_feed b) q).1 tail in
+    let r = split_once a b x y (and_parts (not (nat_eq c 10)) (no_feed a) p).1 (and_parts (not (nat_eq d 10)) (no_feed b) q).1 tail in
     let first = r.0 in
     (joined head first, r.1)
   where

@@ -7,7 +7,8 @@ use Rattle.px_explain.specs.Openings.{AreLines, IsAtFault, Opening, Opens, Proof
 use Rattle.px_explain.specs.Texts.{words, line, text_of, BeginsWithLine}
 use Rattle.px_explain.proofs.Incoming.{no_feed_of}
 use Rattle.px_explain.proofs.Numerals.{no_words}
-use Rattle.px_explain.proofs.ReadBack.{joined, none_of, same_line}
+use Rattle.px_explain.proofs.ReadBack.{joined, same_line}
+use Rattle.std.proofs.lemmas.Bool.{or_parts}
 
 -- The lines go on with some more, to which the bytes behind them belong.
 abbrev GoesOn : (front all : List ProofNode) (rest behind : List ℕ) → Type 0
@@ -19,8 +20,8 @@ fork : (front other : List ProofNode) (rest behind : List ℕ) → AreSmall fron
 fork [] other rest behind f o e = inl (other, refl, e)
 fork (x ∷ front) [] rest behind f o e = inr (x ∷ front, refl, sym e)
 fork (x ∷ front) (y ∷ other) rest behind f o e =
-    let p = none_of (has_above 4_294_967_295 x) (list_any (has_above 4_294_967_295) front) f in
-    let q = none_of (has_above 4_294_967_295 y) (list_any (has_above 4_294_967_295) other) o in
+    let p = or_parts (has_above 4_294_967_295 x) (list_any (has_above 4_294_967_295) front) f in
+    let q = or_parts (has_above 4_294_967_295 y) (list_any (has_above 4_294_967_295) other) o in
     let same = same_line x y (text_of front ++ rest) (text_of other ++ behind) p.0 q.0 (sym (append_assoc (line x) (text_of front) rest) ∙ e ∙ append_assoc (line y) (text_of other) behind) in
     elim (fork front other rest behind p.1 q.1 same.1) [
       | inl g ↦ inl (g.0, joined x y front other g.0 same.0 g.1, g.2)
@@ -39,8 +40,8 @@ no_more front all (t ∷ more) rest behind s few (inl none) e f =
     absurd (none (t, text_of more ++ behind, small_at front t more (subst AreSmall e s), f ∙ append_assoc (line t) (text_of more) behind))
   where
     small_at : (front : List ProofNode) (t : ProofNode) (more : List ProofNode) → AreSmall (front ++ t ∷ more) → has_above 4_294_967_295 t ≡ false
-    small_at [] t more s = (none_of (has_above 4_294_967_295 t) (list_any (has_above 4_294_967_295) more) s).0
-    small_at (x ∷ front) t more s = small_at front t more (none_of (has_above 4_294_967_295 x) (list_any (has_above 4_294_967_295) (front ++ t ∷ more)) s).1
+    small_at [] t more s = (or_parts (has_above 4_294_967_295 t) (list_any (has_above 4_294_967_295) more) s).0
+    small_at (x ∷ front) t more s = small_at front t more (or_parts (has_above 4_294_967_295 x) (list_any (has_above 4_294_967_295) (front ++ t ∷ more)) s).1
 no_more front all (t ∷ more) rest behind s few (inr full) e f = absurd (beyond front all t more few full e)
   where
     beyond : (front all : List ProofNode) (t : ProofNode) (more : List ProofNode) → length all ≤ 100_000 → length front ≡ 100_000 → all ≡ front ++ t ∷ more → ⊥

@@ -11,13 +11,7 @@ use Rattle.px_explain.specs.Lines.{node_of}
 use Rattle.px_explain.specs.Texts.{words, line, text_of, BeginsWithLine}
 use Rattle.px_explain.specs.Refusing.{Refuses}
 use Rattle.px_explain.proofs.Numerals.{words_no_feed, split_once, node_words}
-
-pub none_of : (a b : Bool) → (a || b) ≡ false → (a ≡ false) × (b ≡ false)
-none_of true b h = absurd (apart h)
-  where
-    apart : true ≡ false → ⊥
-    apart e = cc
-none_of false b h = (refl, h)
+use Rattle.std.proofs.lemmas.Bool.{or_parts}
 
 -- the first lines of the same bytes are the same
 pub same_line : (x y : ProofNode) (xs ys : List ℕ) → has_above 4_294_967_295 x ≡ false → has_above 4_294_967_295 y ≡ false → line x ++ xs ≡ line y ++ ys → (x ≡ y) × (xs ≡ ys)
@@ -41,8 +35,8 @@ fronts (x ∷ front) [] rest f n e = absurd (not_nil (words x) (text_of front) r
     not_nil : (w t r : List ℕ) → ((w ++ 10 ∷ []) ++ t) ++ r ≡ [] → ⊥
     not_nil w t r e = omega (arith, simp length-append at (ap length e))
 fronts (x ∷ front) (y ∷ nodes) rest f n e =
-    let p = none_of (has_above 4_294_967_295 x) (list_any (has_above 4_294_967_295) front) f in
-    let q = none_of (has_above 4_294_967_295 y) (list_any (has_above 4_294_967_295) nodes) n in
+    let p = or_parts (has_above 4_294_967_295 x) (list_any (has_above 4_294_967_295) front) f in
+    let q = or_parts (has_above 4_294_967_295 y) (list_any (has_above 4_294_967_295) nodes) n in
     let same = same_line x y (text_of front ++ rest) (text_of nodes) p.0 q.0 (sym (append_assoc (line x) (text_of front) rest) ∙ e) in
     let more = fronts front nodes rest p.1 q.1 same.1 in
     (more.0, joined x y front nodes more.0 same.0 more.1, more.2)
@@ -56,11 +50,11 @@ tail_nil (t ∷ ts) e = absurd (nil_not (words t) (text_of ts) (e ∙ append_ass
 
 begins : (tail : List ProofNode) (rest : List ℕ) → AreSmall tail → rest ≡ text_of tail → rest ≢ [] → BeginsWithLine rest
 begins [] rest s e n = absurd (n e)
-begins (t ∷ ts) rest s e n = (t, text_of ts, (none_of (has_above 4_294_967_295 t) (list_any (has_above 4_294_967_295) ts) s).0, e)
+begins (t ∷ ts) rest s e n = (t, text_of ts, (or_parts (has_above 4_294_967_295 t) (list_any (has_above 4_294_967_295) ts) s).0, e)
 
 small_behind : (front tail : List ProofNode) → AreSmall (front ++ tail) → AreSmall tail
 small_behind [] tail s = s
-small_behind (x ∷ front) tail s = small_behind front tail (none_of (has_above 4_294_967_295 x) (list_any (has_above 4_294_967_295) (front ++ tail)) s).1
+small_behind (x ∷ front) tail s = small_behind front tail (or_parts (has_above 4_294_967_295 x) (list_any (has_above 4_294_967_295) (front ++ tail)) s).1
 
 pub read_back : (text : List ℕ) (nodes : List ProofNode) (result : Result Proof ProofFault) → length nodes ≤ 100_000 → AreSmall nodes → text ≡ text_of nodes →
     MatchResult result (λ proof. (text ≡ text_of proof) × AreSmall proof) (λ fault. Refuses fault text) → MatchResult result (λ proof. proof ≡ nodes) (λ f. f ≡ Memory)

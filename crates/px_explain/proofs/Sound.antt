@@ -10,14 +10,7 @@ use Rattle.px_xpath.specs.Meaning as meaning
 use Rattle.px_explain.specs.declared.node.ProofNode.{ProofNode}
 use Rattle.px_explain.specs.declared.node.ProofNode.TheVariants.{Y, N, T, C, R, V, A, B, O, P, Bang}
 use Rattle.px_explain.specs.Table.{Claim, Path, Each, OneOf, Not, Candidate, nth, list, claim, rest_holds, leads, behind, where_valid, left}
-
-pub or_true : (b : Bool) → (b || true) ≡ true
-or_true true = refl
-or_true false = refl
-
-pub and_false : (b : Bool) → (b && false) ≡ false
-and_false true = refl
-and_false false = refl
+use Rattle.std.proofs.Math.Bool.{or-true, and-false}
 
 -- the claim is true
 abbrev pub IsSo : Claim → Type 0
@@ -55,20 +48,20 @@ pub one_fails : (x : Place) (cs : Conditions) (i : ℕ) (c : Condition) → nth 
 one_fails x cs zero c e h = cc
 one_fails x NoConditions (suc i) c e h = cc
 one_fails x (CondThen d cs) (suc zero) c e h = let same : d ≡ c = cc in rw same (rw h refl)
-one_fails x (CondThen d cs) (suc (suc i)) c e h = rw (one_fails x cs (suc i) c e h) (and_false (meaning.condition_holds d x))
+one_fails x (CondThen d cs) (suc (suc i)) c e h = rw (one_fails x cs (suc i) c e h) (and-false (meaning.condition_holds d x))
 
 pub one_holds : (x : Place) (cs : Conditions) (i : ℕ) (c : Condition) → nth (list cs) i ≡ Some c → meaning.condition_holds c x ≡ true → meaning.some_holds cs x ≡ true
 one_holds x cs zero c e h = cc
 one_holds x NoConditions (suc i) c e h = cc
 one_holds x (CondThen d cs) (suc zero) c e h = let same : d ≡ c = cc in rw same (rw h refl)
-one_holds x (CondThen d cs) (suc (suc i)) c e h = rw (one_holds x cs (suc i) c e h) (or_true (meaning.condition_holds d x))
+one_holds x (CondThen d cs) (suc (suc i)) c e h = rw (one_holds x cs (suc i) c e h) (or-true (meaning.condition_holds d x))
 
 -- a candidate of some number passes
 pub one_passes : (f : Place → Bool) (xs : List Place) (k : ℕ) (y : Place) → nth xs k ≡ Some y → f y ≡ true → list_any f xs ≡ true
 one_passes f xs zero y e h = cc
 one_passes f [] (suc k) y e h = cc
 one_passes f (x ∷ xs) (suc zero) y e h = let same : x ≡ y = cc in rw same (rw h refl)
-one_passes f (x ∷ xs) (suc (suc k)) y e h = rw (one_passes f xs (suc k) y e h) (or_true (f x))
+one_passes f (x ∷ xs) (suc (suc k)) y e h = rw (one_passes f xs (suc k) y e h) (or-true (f x))
 
 pub none_passes : (t : Test) (cs : Conditions) (onward : Way) (end : Place → Bool) (xs : List Place) → AreSo (map (Candidate t cs onward end) xs) →
     list_any (λ y. meaning.meets t y && meaning.all_hold cs y && meaning.way_holds onward end y) xs ≡ false
@@ -107,7 +100,7 @@ passes_so t cs (StepThen axis next more onward) end y l h =
     rw (l, all_so y cs s.0) s.1.0
 
 last_false : (a b c : Bool) → c ≡ false → (a && b && c) ≡ false
-last_false a b c h = rw h (and_false (a && b))
+last_false a b c h = rw h (and-false (a && b))
 
 middle_false : (a b c : Bool) → b ≡ false → (a && b && c) ≡ false
 middle_false true b c h = rw h refl

@@ -17,7 +17,7 @@ use Rattle.px_explain.specs.Bounds.{Exceeds, has_above}
 use Rattle.px_explain.specs.Writing.{Writes, Searched, Found, Past, Beyond, search_among}
 use Rattle.px_explain.proofs.Accepted.{candidate_nodes}
 use Rattle.px_explain.proofs.Searching.{Says, says}
-use Rattle.px_explain.proofs.Sound.{or_true}
+use Rattle.std.proofs.Math.Bool.{or-true}
 
 pub writes_two : (xs ys a b c : List ProofNode) (result : Result (Unit {0}) ExplainFault) → b ≡ a ++ xs → Writes ys b c result → Writes (xs ++ ys) a c result
 writes_two xs ys a b c (Ok u) e h = h ∙ ap (λ (q : List ProofNode). q ++ ys) e ∙ append_assoc a xs ys
@@ -46,7 +46,7 @@ goes_wrong all xs rest start out new Memory e h = tt
 
 any_at : (f : ProofNode → Bool) (old rest : List ProofNode) (x : ProofNode) → f x ≡ true → list_any f (old ++ x ∷ rest) ≡ true
 any_at f [] rest x h = rw h refl
-any_at f (o ∷ old) rest x h = rw (any_at f old rest x h) (or_true (f o))
+any_at f (o ∷ old) rest x h = rw (any_at f old rest x h) (or-true (f o))
 
 -- a number that is too large
 pub exceeds_number : (nodes rest old new : List ProofNode) (x : ProofNode) → nodes ≡ x ∷ rest → has_above 4_294_967_295 x ≡ true → Writes nodes old new (Err TooMany)

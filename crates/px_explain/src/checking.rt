@@ -30,7 +30,8 @@ pub fn path_left<'a>(
     from: Place,
     proof: &'a [ProofNode],
 ) -> Result<&'a [ProofNode], &'a [ProofNode]>
-    ensures { Leaves (Path answer (ways steps.now) (ends.end_holds end.entry) (place from.entry) ∷ []) proof.now result }
+    ensures { Leaves (Path answer (ways steps.now) (ends.end_holds end.entry) (place from.entry) ∷
+        []) proof.now result }
 {
     match steps {
         [] => Err(proof),
@@ -44,7 +45,7 @@ pub fn path_left<'a>(
     }
 }
 
-/// That a path holds.
+// That a path holds.
 #[cycle(checking)]
 fn held_left<'a>(
     step: &Step,
@@ -53,7 +54,8 @@ fn held_left<'a>(
     from: Place,
     proof: &'a [ProofNode],
 ) -> Result<&'a [ProofNode], &'a [ProofNode]>
-    ensures { Leaves (Path true (ways (step.now ∷ rest.now)) (ends.end_holds end.entry) (place from.entry) ∷ []) proof.now result }
+    ensures { Leaves (Path true (ways (step.now ∷ rest.now)) (ends.end_holds end.entry)
+        (place from.entry) ∷ []) proof.now result }
 {
     match proof.split_first() {
         Some((node, behind)) => match node {
@@ -73,7 +75,7 @@ fn held_left<'a>(
     }
 }
 
-/// That each condition of a step holds at a place, and the rest of the path.
+// That each condition of a step holds at a place, and the rest of the path.
 #[cycle(checking)]
 fn led_left<'a>(
     step: &Step,
@@ -82,7 +84,8 @@ fn led_left<'a>(
     at: Place,
     proof: &'a [ProofNode],
 ) -> Result<&'a [ProofNode], &'a [ProofNode]>
-    ensures { Leaves (map (claim true (place at.entry)) (list (conditions step.now.conds)) ++ rest_holds (ways rest.now) (ends.end_holds end.entry) (place at.entry)) proof.now result }
+    ensures { Leaves (map (claim true (place at.entry)) (list (conditions step.now.conds)) ++
+        rest_holds (ways rest.now) (ends.end_holds end.entry) (place at.entry)) proof.now result }
 {
     match conditions_left(true, step.conds.as_slice(), at, proof) {
         Ok(behind) => rest_left(rest, end, at, behind),
@@ -90,7 +93,7 @@ fn led_left<'a>(
     }
 }
 
-/// The candidate of this number, counted from 1.
+// The candidate of this number, counted from 1.
 fn numbered<'a>(axis: Axis, from: Place<'a>, number: u32) -> Option<Place<'a>>
     ensures { option_map place result ≡ nth (candidates axis (place from.entry)) number }
 {
@@ -103,10 +106,11 @@ fn numbered<'a>(axis: Axis, from: Place<'a>, number: u32) -> Option<Place<'a>>
     }
 }
 
-/// Whether a path may go through this candidate: it meets the test, and a path that ends here
-/// compares true.
+// Whether a path may go through this candidate: it meets the test, and a path that ends here
+// compares true.
 fn leads(step: &Step, rest: &[Step], end: End, at: Place) -> bool
-    ensures { result ≡ table.leads step.now.test (ways rest.now) (ends.end_holds end.entry) (place at.entry) }
+    ensures { result ≡ table.leads step.now.test (ways rest.now) (ends.end_holds end.entry)
+        (place at.entry) }
 {
     if !meets(&step.test, at) {
         return false;
@@ -117,7 +121,7 @@ fn leads(step: &Step, rest: &[Step], end: End, at: Place) -> bool
     }
 }
 
-/// That the rest of a path holds, if there is one.
+// That the rest of a path holds, if there is one.
 #[cycle(checking)]
 fn rest_left<'a>(
     rest: &[Step],
@@ -125,7 +129,8 @@ fn rest_left<'a>(
     at: Place,
     proof: &'a [ProofNode],
 ) -> Result<&'a [ProofNode], &'a [ProofNode]>
-    ensures { Leaves (rest_holds (ways rest.now) (ends.end_holds end.entry) (place at.entry)) proof.now result }
+    ensures { Leaves (rest_holds (ways rest.now) (ends.end_holds end.entry) (place at.entry))
+        proof.now result }
 {
     match rest {
         [] => Ok(proof),
@@ -133,7 +138,7 @@ fn rest_left<'a>(
     }
 }
 
-/// That each of some conditions holds, or does not, in order.
+// That each of some conditions holds, or does not, in order.
 #[cycle(checking)]
 fn conditions_left<'a>(
     answer: bool,
@@ -141,7 +146,8 @@ fn conditions_left<'a>(
     at: Place,
     proof: &'a [ProofNode],
 ) -> Result<&'a [ProofNode], &'a [ProofNode]>
-    ensures { Leaves (map (claim answer (place at.entry)) (list (conditions conds.now))) proof.now result }
+    ensures { Leaves (map (claim answer (place at.entry)) (list (conditions conds.now))) proof.now
+        result }
 {
     let mut left = proof;
     for cond in conds {
@@ -153,7 +159,7 @@ fn conditions_left<'a>(
     Ok(left)
 }
 
-/// That a condition holds, or does not.
+// That a condition holds, or does not.
 #[cycle(checking)]
 fn condition_left<'a>(
     answer: bool,
@@ -161,7 +167,8 @@ fn condition_left<'a>(
     at: Place,
     proof: &'a [ProofNode],
 ) -> Result<&'a [ProofNode], &'a [ProofNode]>
-    ensures { Leaves (claim answer (place at.entry) (views.condition cond.now) ∷ []) proof.now result }
+    ensures { Leaves (claim answer (place at.entry) (views.condition cond.now) ∷ []) proof.now
+        result }
 {
     match cond {
         Cond::Exists(path) => path_left(answer, path.steps.as_slice(), End::Always, at, proof),
@@ -175,7 +182,7 @@ fn condition_left<'a>(
     }
 }
 
-/// That each of some conditions holds, or that one of them does not.
+// That each of some conditions holds, or that one of them does not.
 #[cycle(checking)]
 fn and_left<'a>(
     answer: bool,
@@ -206,7 +213,7 @@ fn and_left<'a>(
     }
 }
 
-/// That one of some conditions holds, or that none does.
+// That one of some conditions holds, or that none does.
 #[cycle(checking)]
 fn or_left<'a>(
     answer: bool,
@@ -237,7 +244,7 @@ fn or_left<'a>(
     }
 }
 
-/// That a condition does not hold, or that it does.
+// That a condition does not hold, or that it does.
 #[cycle(checking)]
 fn not_left<'a>(
     answer: bool,
@@ -245,7 +252,8 @@ fn not_left<'a>(
     at: Place,
     proof: &'a [ProofNode],
 ) -> Result<&'a [ProofNode], &'a [ProofNode]>
-    ensures { Leaves (table.Not answer (views.condition part.now) (place at.entry) ∷ []) proof.now result }
+    ensures { Leaves (table.Not answer (views.condition part.now) (place at.entry) ∷ []) proof.now
+        result }
 {
     match proof.split_first() {
         Some((node, behind)) => match node {
@@ -256,9 +264,10 @@ fn not_left<'a>(
     }
 }
 
-/// The condition of this number, counted from 1.
+// The condition of this number, counted from 1.
 fn part(conds: &[Cond], number: u32) -> Option<&Cond>
-    ensures { option_map (λ cond. views.condition cond.now) result ≡ nth (list (conditions conds.now)) number }
+    ensures { option_map (λ cond. views.condition cond.now) result ≡
+        nth (list (conditions conds.now)) number }
 {
     if number == 0 {
         return None;
@@ -269,7 +278,7 @@ fn part(conds: &[Cond], number: u32) -> Option<&Cond>
     }
 }
 
-/// That a path does not hold.
+// That a path does not hold.
 #[cycle(checking)]
 fn failed_left<'a>(
     step: &Step,
@@ -278,7 +287,8 @@ fn failed_left<'a>(
     from: Place,
     proof: &'a [ProofNode],
 ) -> Result<&'a [ProofNode], &'a [ProofNode]>
-    ensures { Leaves (Path false (ways (step.now ∷ rest.now)) (ends.end_holds end.entry) (place from.entry) ∷ []) proof.now result }
+    ensures { Leaves (Path false (ways (step.now ∷ rest.now)) (ends.end_holds end.entry)
+        (place from.entry) ∷ []) proof.now result }
 {
     match proof.split_first() {
         Some((node, behind)) => match node {
@@ -295,7 +305,7 @@ fn failed_left<'a>(
     }
 }
 
-/// Whether a step has so many candidates.
+// Whether a step has so many candidates.
 fn are_so_many(axis: Axis, from: Place, count: u32) -> bool
     ensures { result ≡ nat_eq (length (candidates axis (place from.entry))) count }
 {
@@ -305,7 +315,7 @@ fn are_so_many(axis: Axis, from: Place, count: u32) -> bool
     }
 }
 
-/// That each candidate of a step fails.
+// That each candidate of a step fails.
 #[cycle(checking)]
 fn candidates_left<'a>(
     step: &Step,
@@ -314,7 +324,8 @@ fn candidates_left<'a>(
     from: Place,
     proof: &'a [ProofNode],
 ) -> Result<&'a [ProofNode], &'a [ProofNode]>
-    ensures { Leaves (map (fails step.now rest.now end.entry) (candidates step.now.axis (place from.entry))) proof.now result }
+    ensures { Leaves (map (fails step.now rest.now end.entry)
+        (candidates step.now.axis (place from.entry))) proof.now result }
 {
     match (step.axis, from) {
         (Axis::Child, Place::Document(tree)) => {
@@ -337,7 +348,7 @@ fn candidates_left<'a>(
     }
 }
 
-/// That each attribute fails.
+// That each attribute fails.
 #[cycle(checking)]
 fn attributes_left<'a>(
     step: &Step,
@@ -346,7 +357,8 @@ fn attributes_left<'a>(
     attributes: &[Attribute],
     proof: &'a [ProofNode],
 ) -> Result<&'a [ProofNode], &'a [ProofNode]>
-    ensures { Leaves (map (fails step.now rest.now end.entry) (map AtAttribute attributes.now)) proof.now result }
+    ensures { Leaves (map (fails step.now rest.now end.entry) (map AtAttribute attributes.now))
+        proof.now result }
 {
     let mut left = proof;
     for attribute in attributes {
@@ -358,7 +370,7 @@ fn attributes_left<'a>(
     Ok(left)
 }
 
-/// That each node fails.
+// That each node fails.
 #[cycle(checking)]
 fn children_left<'a>(
     step: &Step,
@@ -367,7 +379,8 @@ fn children_left<'a>(
     children: &[Node],
     proof: &'a [ProofNode],
 ) -> Result<&'a [ProofNode], &'a [ProofNode]>
-    ensures { Leaves (map (fails step.now rest.now end.entry) (members (nodes children.now))) proof.now result }
+    ensures { Leaves (map (fails step.now rest.now end.entry) (members (nodes children.now)))
+        proof.now result }
 {
     let mut left = proof;
     for child in children {
@@ -379,7 +392,7 @@ fn children_left<'a>(
     Ok(left)
 }
 
-/// That each node fails, and each attribute and node below it.
+// That each node fails, and each attribute and node below it.
 #[cycle(checking)]
 fn below_left<'a>(
     step: &Step,
@@ -388,7 +401,8 @@ fn below_left<'a>(
     children: &[Node],
     proof: &'a [ProofNode],
 ) -> Result<&'a [ProofNode], &'a [ProofNode]>
-    ensures { Leaves (map (fails step.now rest.now end.entry) (all_below (nodes children.now))) proof.now result }
+    ensures { Leaves (map (fails step.now rest.now end.entry) (all_below (nodes children.now)))
+        proof.now result }
 {
     let mut left = proof;
     for child in children {
@@ -400,7 +414,7 @@ fn below_left<'a>(
     Ok(left)
 }
 
-/// That a node fails, and each attribute and node below it.
+// That a node fails, and each attribute and node below it.
 #[cycle(checking)]
 fn node_left<'a>(
     step: &Step,
@@ -409,7 +423,8 @@ fn node_left<'a>(
     node: &Node,
     proof: &'a [ProofNode],
 ) -> Result<&'a [ProofNode], &'a [ProofNode]>
-    ensures { Leaves (map (fails step.now rest.now end.entry) (node_and_below node.now)) proof.now result }
+    ensures { Leaves (map (fails step.now rest.now end.entry) (node_and_below node.now)) proof.now
+        result }
 {
     match node {
         Node::Elem(element) => element_left(step, rest, end, element, proof),
@@ -417,7 +432,7 @@ fn node_left<'a>(
     }
 }
 
-/// That an element fails, and each attribute and node below it.
+// That an element fails, and each attribute and node below it.
 #[cycle(checking)]
 fn element_left<'a>(
     step: &Step,
@@ -426,7 +441,8 @@ fn element_left<'a>(
     element: &Element,
     proof: &'a [ProofNode],
 ) -> Result<&'a [ProofNode], &'a [ProofNode]>
-    ensures { Leaves (map (fails step.now rest.now end.entry) (element_and_below element.now)) proof.now result }
+    ensures { Leaves (map (fails step.now rest.now end.entry) (element_and_below element.now))
+        proof.now result }
 {
     match candidate_left(step, rest, end, Place::Element(element), proof) {
         Ok(behind) => inside_left(step, rest, end, element, behind),
@@ -434,7 +450,7 @@ fn element_left<'a>(
     }
 }
 
-/// That each attribute of an element fails, and each attribute and node below it.
+// That each attribute of an element fails, and each attribute and node below it.
 #[cycle(checking)]
 fn inside_left<'a>(
     step: &Step,
@@ -443,7 +459,9 @@ fn inside_left<'a>(
     element: &Element,
     proof: &'a [ProofNode],
 ) -> Result<&'a [ProofNode], &'a [ProofNode]>
-    ensures { Leaves (map (fails step.now rest.now end.entry) (map AtAttribute element.now.attributes ++ all_below (nodes element.now.children))) proof.now result }
+    ensures { Leaves (map (fails step.now rest.now end.entry)
+        (map AtAttribute element.now.attributes ++
+        all_below (nodes element.now.children))) proof.now result }
 {
     match attributes_left(step, rest, end, element.attributes.as_slice(), proof) {
         Ok(behind) => below_left(step, rest, end, element.children.as_slice(), behind),
@@ -451,7 +469,7 @@ fn inside_left<'a>(
     }
 }
 
-/// That a candidate fails: the test, a condition, the rest of the path, or the end.
+// That a candidate fails: the test, a condition, the rest of the path, or the end.
 #[cycle(checking)]
 fn candidate_left<'a>(
     step: &Step,
@@ -492,7 +510,7 @@ fn candidate_left<'a>(
     }
 }
 
-/// Whether a path ends at this place and compares false.
+// Whether a path ends at this place and compares false.
 fn ends_false(rest: &[Step], end: End, at: Place) -> bool
     ensures { result ≡ ends_false (ways rest.now) (ends.end_holds end.entry) (place at.entry) }
 {

@@ -26,7 +26,8 @@ impl Model for Draft {
 
     ghost view = { λ draft. draft.nodes.items };
 
-    ghost invariant = { λ draft. (length draft.nodes.items ≤ 100_000) × AreSmall draft.nodes.items };
+    ghost invariant = { λ draft. (length draft.nodes.items ≤ 100_000) ×
+        AreSmall draft.nodes.items };
 }
 
 impl Draft {

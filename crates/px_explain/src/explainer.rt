@@ -24,10 +24,14 @@ use std::alloc::Global;
 /// `TooMany` comes exactly where that proof has more than 100,000 nodes or a number above
 /// 4,294,967,295. After each error nothing is left behind.
 pub fn explain(alloc: Global, filter: &Filter, tree: &Tree) -> Result<Proof, ExplainFault>
-    ensures canonical { IfOk result (λ proof. proof ≡ canonical (whole.filter filter.now) (trees.tree tree.now)) }
-    ensures shows { IfOk result (λ proof. Justifies (whole.filter filter.now) (trees.tree tree.now) proof (meaning.holds (whole.filter filter.now) (trees.tree tree.now))) }
-    ensures fits { IfOk result (λ _. Exceeds (canonical (whole.filter filter.now) (trees.tree tree.now)) → ⊥) }
-    ensures many { IsErrOf result TooMany → Exceeds (canonical (whole.filter filter.now) (trees.tree tree.now)) }
+    ensures canonical { IfOk result (λ proof. proof ≡
+        canonical (whole.filter filter.now) (trees.tree tree.now)) }
+    ensures shows { IfOk result (λ proof. Justifies (whole.filter filter.now) (trees.tree tree.now)
+        proof (meaning.holds (whole.filter filter.now) (trees.tree tree.now))) }
+    ensures fits { IfOk result (λ _. Exceeds
+        (canonical (whole.filter filter.now) (trees.tree tree.now)) → ⊥) }
+    ensures many { IsErrOf result TooMany →
+        Exceeds (canonical (whole.filter filter.now) (trees.tree tree.now)) }
 {
     let mut draft = Draft::new(alloc);
     let steps = filter.path.steps.as_slice();

@@ -1,9 +1,9 @@
 //! Proofs of an answer: why a filter holds of a document, or why it does not, and a checker that
 //! trusts nothing.
 //!
-//! A [`Proof`] is a list of nodes, in the order in which they are needed. It is read from the front:
-//! each [`ProofNode`] proves the claim that is next, and says which claims are proved behind it
-//! (`specs/Table.antt`). [`explain`] gives the canonical proof (`specs/Canonical.antt`), and
+//! A [`Proof`] is a list of nodes, in the order in which they are needed. It is read from the
+//! front: each [`ProofNode`] proves the claim that is next, and says which claims are proved behind
+//! it (`specs/Table.antt`). [`explain`] gives the canonical proof (`specs/Canonical.antt`), and
 //! [`check`] says what any list of nodes shows. That the one accepts the other, and that what is
 //! shown is so, are laws of the definitions ([`canonical_is_accepted`], [`justified_is_so`]).
 //! [`write_proof`] and [`read_proof`] are the text of a proof, a line for each node, and a

@@ -18,7 +18,8 @@ const MOST_DIGITS: usize = 10;
 
 /// The node whose line the text begins with, and what is behind that line.
 pub fn line_at(text: &[u8]) -> Option<(ProofNode, &[u8])>
-    ensures { MatchOption result (BeginsWithLine text.now → ⊥) (λ r. (text.now ≡ line r.0 ++ r.1.now) × (has_above 4_294_967_295 r.0 ≡ false)) }
+    ensures { MatchOption result (BeginsWithLine text.now →
+        ⊥) (λ r. (text.now ≡ line r.0 ++ r.1.now) × (has_above 4_294_967_295 r.0 ≡ false)) }
 {
     match memchr(b'\n', text) {
         Some(at) => match node_of(&text[..at]) {
@@ -48,7 +49,7 @@ pub fn node_of(words: &[u8]) -> Option<ProofNode>
     }
 }
 
-/// The node that a letter is by itself.
+// The node that a letter is by itself.
 fn by_itself(letter: u8) -> Option<ProofNode>
     ensures { result ≡ at_letter letter letters }
 {
@@ -63,7 +64,7 @@ fn by_itself(letter: u8) -> Option<ProofNode>
     }
 }
 
-/// The node that a letter is with the number that the digits write.
+// The node that a letter is with the number that the digits write.
 fn with_number(letter: u8, digits: &[u8]) -> Option<ProofNode>
     ensures { result ≡ lines.node_of (letter ∷ 32 ∷ digits.now) }
 {
@@ -73,7 +74,7 @@ fn with_number(letter: u8, digits: &[u8]) -> Option<ProofNode>
     }
 }
 
-/// The node that a letter is with a number.
+// The node that a letter is with a number.
 fn numbered(letter: u8, number: u32) -> Option<ProofNode>
     ensures { result ≡ at_letter letter (numbered_letters number) }
 {
@@ -87,7 +88,7 @@ fn numbered(letter: u8, number: u32) -> Option<ProofNode>
     }
 }
 
-/// The number that digits write, if it has no leading zero and fits 32 bits.
+// The number that digits write, if it has no leading zero and fits 32 bits.
 fn number_of(digits: &[u8]) -> Option<u32>
     ensures { result ≡ lines.number_of digits.now }
 {
@@ -100,7 +101,7 @@ fn number_of(digits: &[u8]) -> Option<u32>
     }
 }
 
-/// Whether the text is one to ten digits without a leading zero.
+// Whether the text is one to ten digits without a leading zero.
 fn is_numeral(text: &[u8]) -> bool
     ensures same { result ≡ lines.is_numeral text.now }
     ensures short { IsTrue result → length text.now ≤ 10 }
@@ -121,7 +122,7 @@ fn are_digits(text: &[u8]) -> bool
     text.iter().all(|byte| is_digit(*byte))
 }
 
-/// The number that at most ten digits write.
+// The number that at most ten digits write.
 fn value_of(digits: &[u8]) -> u64
     requires digits { IsTrue (list_all tests_digit digits.now) }
     requires short { length digits.now ≤ 10 }

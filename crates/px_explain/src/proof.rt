@@ -49,7 +49,8 @@ impl Proof {
     /// Whether the proof is one of `yes`. What it shows of a filter and a document, if it shows
     /// anything, is this answer.
     pub fn says_yes(&self) -> bool
-        ensures { (filter : Way) (root : Root) (answer : Bool) → Justifies filter root self.now answer → result ≡ answer }
+        ensures { (filter : Way) (root : Root) (answer : Bool) →
+            Justifies filter root self.now answer → result ≡ answer }
     {
         match self.nodes.as_slice().split_first() {
             Some((first, _)) => proves_path(first),
@@ -58,7 +59,7 @@ impl Proof {
     }
 }
 
-/// Whether a node proves that a path holds.
+// Whether a node proves that a path holds.
 fn proves_path(node: &ProofNode) -> bool
     ensures { result ≡ checking.proves_path node.now }
 {

@@ -42,7 +42,8 @@ impl ProofReader {
     /// `=` is one too many. After a fault the reader may only be dropped.
     pub fn feed<'a>(&mut self, piece: &'a [u8]) -> Result<Option<&'a [u8]>, ProofFault>
         ensures more { IfOk result (λ found. found ≡ None → TakesOn self.old self.new piece.now) }
-        ensures whole { IfOk result (λ found. IfSome found (λ behind. EndsProof self.old self.new piece.now behind.now)) }
+        ensures whole { IfOk result (λ found. IfSome found
+            (λ behind. EndsProof self.old self.new piece.now behind.now)) }
         ensures fault { IfErr result (λ fault. FailsBy self.old piece.now fault) }
     {
         let mut rest = piece;
@@ -75,16 +76,18 @@ impl ProofReader {
     /// The proof, once the line `=` has come. It takes no memory.
     pub fn finish(self) -> Proof
         requires { (document : List ℕ) × (bytes : List ℕ) × HasProof self document bytes }
-        ensures { (document bytes : List ℕ) → HasProof self document bytes → Opens bytes (ProofThen result document) }
+        ensures { (document bytes : List ℕ) → HasProof self document bytes →
+            Opens bytes (ProofThen result document) }
     {
         Proof::of(self.nodes)
     }
 
-    /// Takes the part of a piece that ends a line, without its line feed: whether the line is `=`.
+    // Takes the part of a piece that ends a line, without its line feed: whether the line is `=`.
     fn end_line(&mut self, part: &[u8]) -> Result<bool, ProofFault>
         requires { has_no_feed part.now ≡ true }
         ensures more { result ≡ Ok false → TakesOn self.old self.new (part.now ++ 10 ∷ []) }
-        ensures whole { result ≡ Ok true → (behind : List ℕ) → EndsProof self.old self.new (part.now ++ 10 ∷ behind) behind }
+        ensures whole { result ≡ Ok true → (behind : List ℕ) →
+            EndsProof self.old self.new (part.now ++ 10 ∷ behind) behind }
         ensures fault { IfErr result (λ fault. FailsBy self.old (part.now ++ 10 ∷ []) fault) }
     {
         match self.begin_line(part) {
@@ -101,7 +104,7 @@ impl ProofReader {
         }
     }
 
-    /// Takes the part of a piece that begins a line, or goes on with it.
+    // Takes the part of a piece that begins a line, or goes on with it.
     fn begin_line(&mut self, part: &[u8]) -> Result<(), ProofFault>
         requires { has_no_feed part.now ≡ true }
         ensures more { OnOk result (TakesOn self.old self.new part.now) }
@@ -116,7 +119,7 @@ impl ProofReader {
         }
     }
 
-    /// Takes the line that has begun, now that its line feed has come.
+    // Takes the line that has begun, now that its line feed has come.
     fn take_line(&mut self) -> Result<(), ProofFault>
         requires other { self.old.begun.items ≢ codes "=" }
         ensures more { OnOk result (TakesOn self.old self.new (10 ∷ [])) }
@@ -137,7 +140,7 @@ impl ProofReader {
         }
     }
 
-    /// The fault of a line behind those that were taken.
+    // The fault of a line behind those that were taken.
     fn fault(&self) -> ProofFault
         ensures { result ≡ fault_behind (length self.now.nodes.items) }
     {

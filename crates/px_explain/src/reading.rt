@@ -24,16 +24,20 @@ pub enum ProofFault {
 
 /// The proof that a text writes. It takes memory for its nodes alone.
 pub fn read_proof(alloc: Global, text: &[u8]) -> Result<Proof, ProofFault>
-    ensures exact { MatchResult result (λ proof. (text.now ≡ text_of proof) × AreSmall proof) (λ fault. Refuses fault text.now) }
+    ensures exact { MatchResult result (λ proof. (text.now ≡ text_of proof) ×
+        AreSmall proof) (λ fault. Refuses fault text.now) }
     // What was written is read back.
-    ensures back { (nodes : List node_type.ProofNode) → length nodes ≤ 100_000 → AreSmall nodes → text.now ≡ text_of nodes → MatchResult result (λ proof. proof ≡ nodes) (λ f. f ≡ fault.Memory) }
+    ensures back { (nodes : List node_type.ProofNode) → length nodes ≤ 100_000 → AreSmall nodes →
+        text.now ≡ text_of nodes → MatchResult result (λ proof. proof ≡ nodes) (λ f. f ≡
+        fault.Memory) }
 {
     read(alloc, text)
 }
 
-/// The same, by its first clause.
+// The same, by its first clause.
 fn read(alloc: Global, text: &[u8]) -> Result<Proof, ProofFault>
-    ensures { MatchResult result (λ proof. (text.now ≡ text_of proof) × AreSmall proof) (λ fault. Refuses fault text.now) }
+    ensures { MatchResult result (λ proof. (text.now ≡ text_of proof) ×
+        AreSmall proof) (λ fault. Refuses fault text.now) }
 {
     let mut nodes = Vec::new(alloc);
     let mut rest = text;
@@ -54,7 +58,7 @@ fn read(alloc: Global, text: &[u8]) -> Result<Proof, ProofFault>
     Ok(Proof::of(nodes))
 }
 
-/// That the line behind these nodes is none of a proof.
+// That the line behind these nodes is none of a proof.
 fn not_a_proof(nodes: &Vec<ProofNode>) -> ProofFault
     requires few { length nodes.now.items ≤ 100_000 }
     ensures { result ≡ fault.NotAProof (length nodes.now.items + 1) }

@@ -18,7 +18,7 @@ fn element(alloc: Global, name: &[u8], children: Items<Node>) -> Result<Element,
     })
 }
 
-/// An `a` with so many empty elements `b` in it.
+// An `a` with so many empty elements `b` in it.
 fn a_with_bs(alloc: Global, count: u32) -> Result<Tree, AllocError> {
     let mut children = Items::new(alloc);
     for _ in 0..count {
@@ -28,7 +28,7 @@ fn a_with_bs(alloc: Global, count: u32) -> Result<Tree, AllocError> {
     Ok(Tree { root })
 }
 
-/// So many lines `t`.
+// So many lines `t`.
 fn lines_t(alloc: Global, count: u32) -> Result<Vec<u8>, AllocError> {
     let mut text = Vec::new(alloc);
     for _ in 0..count {
@@ -109,7 +109,7 @@ fn names_the_first_line_that_is_none(rt: HostRuntime) -> Result<(), Fail> {
     Ok(())
 }
 
-/// `//b[@k]` needs one line for the count, one for `a`, and two for each `b`.
+// `//b[@k]` needs one line for the count, one for `a`, and two for each `b`.
 #[test]
 fn explains_by_at_most_a_hundred_thousand_nodes(rt: HostRuntime) -> Result<(), Fail> {
     let alloc = rt.alloc();
@@ -160,7 +160,7 @@ enum Read {
     Fault(ProofFault),
 }
 
-/// Reads the text in pieces of so many bytes.
+// Reads the text in pieces of so many bytes.
 fn read_pieces(alloc: Global, text: &[u8], size: usize) -> Read {
     let mut reader = ProofReader::new(alloc);
     let mut taken = 0usize;

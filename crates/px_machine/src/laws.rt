@@ -21,15 +21,21 @@ pub fn gathered_without_needs()
     ensures accepted { (automata : Automata) (root : Root) (end : List Shell) (ids : List ℕ) →
         Runs automata.states bare (events_of root) end → Accepts automata.firsts end ids →
         ids ≡ accepted (machine_of automata.states) automata.firsts (root_content root) }
-    ensures matches { (history : List Change) (root : Root) (end : List Shell) (ids : List ℕ) → HaveSteps (live history) →
-        Runs (program history).states bare (events_of root) end → Accepts (program history).firsts end ids → ids ≡ matches history root }
+    ensures matches { (history : List Change) (root : Root) (end : List Shell) (ids : List ℕ) →
+        HaveSteps (live history) →
+        Runs (program history).states bare (events_of root) end →
+        Accepts (program history).firsts end ids → ids ≡ matches history root }
 {}
 
 /// Where no Path that a label meets looks at a Value, sets that differ by Values alone give the
 /// same. So the text of such a child need not be looked at.
 pub fn unread_values()
-    ensures same { (states : List State) (label : ℕ) (a b : ℕ → Bool) → reads_value states label ≡ false →
-        ((k : ℕ) → is_value (state_at states k) ≡ false → a k ≡ b k) → (p : ℕ) → gives states label a p ≡ gives states label b p }
-    ensures text { (states : List State) (label : ℕ) (gathered : ℕ → Bool) (text : List ℕ) → reads_value states label ≡ false →
-        (p : ℕ) → gives states label (λ k. gathered k || has (values_in states text) k) p ≡ gives states label gathered p }
+    ensures same { (states : List State) (label : ℕ) (a b : ℕ → Bool) →
+        reads_value states label ≡ false →
+        ((k : ℕ) → is_value (state_at states k) ≡ false → a k ≡ b k) → (p : ℕ) →
+        gives states label a p ≡ gives states label b p }
+    ensures text { (states : List State) (label : ℕ) (gathered : ℕ → Bool) (text : List ℕ) →
+        reads_value states label ≡ false →
+        (p : ℕ) → gives states label (λ k. gathered k || has (values_in states text) k) p ≡
+        gives states label gathered p }
 {}

@@ -40,7 +40,8 @@ impl Model for Lists {
 
     ghost view = { λ shelf. record {
       lists = [] ∷ map (cut shelf.items.items) shelf.spans.items;
-      bytes = 4 * vec_capacity shelf.items + 24 * vec_capacity shelf.spans + 4 * vec_capacity shelf.places;
+      bytes = 4 * vec_capacity shelf.items + 24 * vec_capacity shelf.spans + 4 * vec_capacity
+          shelf.places;
     } };
 
     ghost invariant = { λ shelf. AreWithin (length shelf.items.items) shelf.spans.items };
@@ -89,10 +90,11 @@ impl Lists {
     }
 
     /// A number for a list: that of an equal one, if it is found, or else the next. It takes memory
-    /// for a new one, and fails at want of memory, or where no number is left; the lists are then as
-    /// before.
+    /// for a new one, and fails at want of memory, or where no number is left; the lists are then
+    /// as before.
     pub fn keep(&mut self, list: &[u32]) -> Result<u32, AllocError>
-        ensures kept { IfOk result (λ n. (n < length self.new.lists) × (row self.new.lists n ≡ list.now)) }
+        ensures kept { IfOk result (λ n. (n < length self.new.lists) ×
+            (row self.new.lists n ≡ list.now)) }
         ensures only { IsSameOrMore self.old.lists list.now self.new.lists }
     {
         let hash = hash_of(list);
@@ -104,7 +106,8 @@ impl Lists {
 
     // The number of a list, where it is found.
     fn find(&self, hash: u64, list: &[u32]) -> Option<u32>
-        ensures found { IfSome result (λ n. (n < length self.now.lists) × (row self.now.lists n ≡ list.now)) }
+        ensures found { IfSome result (λ n. (n < length self.now.lists) ×
+            (row self.now.lists n ≡ list.now)) }
     {
         if list.is_empty() {
             self.first_is_empty();
@@ -126,7 +129,8 @@ impl Lists {
 
     // Whether this list stands under a number. The hash spares most comparisons, and decides none.
     fn is_under(&self, n: u32, hash: u64, list: &[u32]) -> bool
-        ensures under { IsTrue result → (n < length self.now.lists) × (row self.now.lists n ≡ list.now) }
+        ensures under { IsTrue result → (n < length self.now.lists) ×
+            (row self.now.lists n ≡ list.now) }
     {
         if n == 0 || n as usize > self.spans.len() {
             return false;
@@ -171,8 +175,10 @@ fn append(
     hash: u64,
 ) -> Result<(), AllocError>
     ensures items { OnOk result (items.new.items ≡ items.old.items ++ list.now) }
-    ensures spans { OnOk result (spans.new.items ≡ spans.old.items ++ span_of items.old.items list.now hash ∷ []) }
-    ensures err { OnErr result ((items.new.items ≡ items.old.items) × (spans.new.items ≡ spans.old.items)) }
+    ensures spans { OnOk result (spans.new.items ≡ spans.old.items ++
+        span_of items.old.items list.now hash ∷ []) }
+    ensures err { OnErr result ((items.new.items ≡ items.old.items) ×
+        (spans.new.items ≡ spans.old.items)) }
 {
     spans.reserve(1)?;
     let start = items.len();

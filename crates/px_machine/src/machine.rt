@@ -75,10 +75,13 @@ impl Machine {
     /// Takes the next event of a document. What it remembers may come to exceed the bound, by what
     /// the document alone brings. After `AllocError` it may only be dropped, or restarted.
     pub fn event(&mut self, next: Happening<'_>) -> Result<(), AllocError>
-        requires begun { (automata : Automata) × (given : List Happened) × HasRun self.old automata given }
+        requires begun { (automata : Automata) × (given : List Happened) ×
+            HasRun self.old automata given }
         ensures same { program_of self.new ≡ program_of self.old }
         ensures bound { bound_of self.new ≡ bound_of self.old }
-        ensures ok { OnOk result ((automata : Automata) (given : List Happened) → HasRun self.old automata given → HasRun self.new automata (given ++ (event_of next.entry) ∷ [])) }
+        ensures ok { OnOk result ((automata : Automata) (given : List Happened) →
+            HasRun self.old automata given → HasRun self.new automata (given ++
+            (event_of next.entry) ∷ [])) }
     {
         self.take(next)
     }
@@ -88,10 +91,13 @@ impl Machine {
     /// bound; what would take more is forgotten. After `AllocError` it may only be dropped, or
     /// restarted.
     pub fn finish(&mut self) -> Result<Ids, AllocError>
-        requires whole { (automata : Automata) × (root : Root) × HasRun self.old automata (events_of root) }
-        ensures accepted { IfOk result (λ ids. (automata : Automata) (root : Root) → HasRun self.old automata (events_of root) →
+        requires whole { (automata : Automata) × (root : Root) ×
+            HasRun self.old automata (events_of root) }
+        ensures accepted { IfOk result (λ ids. (automata : Automata) (root : Root) →
+            HasRun self.old automata (events_of root) →
             ids ≡ accepted (machine_of automata.states) automata.firsts (root_content root)) }
-        ensures matches { IfOk result (λ ids. (history : List Change) (root : Root) → HaveSteps (live history) →
+        ensures matches { IfOk result (λ ids. (history : List Change) (root : Root) →
+            HaveSteps (live history) →
             HasRun self.old (afa.program history) (events_of root) → ids ≡ matches history root) }
         ensures ready { OnOk result (HasRun self.new (program_of self.old) []) }
         ensures few { OnOk result (bytes_of self.new ≤ bound_of self.new) }
@@ -132,7 +138,8 @@ impl Machine {
         requires at { (opened : Opened) × IsAt self.old opened }
         ensures same { program_of self.new ≡ program_of self.old }
         ensures bound { bound_of self.new ≡ bound_of self.old }
-        ensures ok { OnOk result ((opened : Opened) → IsAt self.old opened → IsAt self.new (after_event (program_of self.old).states opened (event_of next.entry))) }
+        ensures ok { OnOk result ((opened : Opened) → IsAt self.old opened →
+            IsAt self.new (after_event (program_of self.old).states opened (event_of next.entry))) }
     {
         match next {
             Happening::Start { name } => {
@@ -154,7 +161,11 @@ impl Machine {
         ensures same { program_of self.new ≡ program_of self.old }
         ensures bound { bound_of self.new ≡ bound_of self.old }
         ensures ok { OnOk result ((opened : Opened) → IsAt self.old opened → IsAt self.new
-            (record { innermost = with_child (program_of self.old).states opened.innermost (values_in (program_of self.old).states value.now) label said.now; outer = opened.outer })) }
+            (record {
+              innermost = with_child (program_of self.old).states opened.innermost
+                  (values_in (program_of self.old).states value.now) label said.now;
+              outer = opened.outer;
+            })) }
     {
         let values = self.facts.text_values(value)?;
         let given = self.facts.leaf(values, label)?;
@@ -169,7 +180,8 @@ impl Machine {
         requires at { (opened : Opened) × IsAt self.old opened }
         ensures same { program_of self.new ≡ program_of self.old }
         ensures bound { bound_of self.new ≡ bound_of self.old }
-        ensures ok { OnOk result ((opened : Opened) → IsAt self.old opened → IsAt self.new (begun (program_of self.old).states opened label)) }
+        ensures ok { OnOk result ((opened : Opened) → IsAt self.old opened →
+            IsAt self.new (begun (program_of self.old).states opened label)) }
     {
         let child = Frame {
             label,
@@ -186,7 +198,8 @@ impl Machine {
         requires at { (opened : Opened) × IsAt self.old opened }
         ensures same { program_of self.new ≡ program_of self.old }
         ensures bound { bound_of self.new ≡ bound_of self.old }
-        ensures ok { OnOk result ((opened : Opened) → IsAt self.old opened → IsAt self.new (after_end (program_of self.old).states opened.innermost opened.outer)) }
+        ensures ok { OnOk result ((opened : Opened) → IsAt self.old opened →
+            IsAt self.new (after_end (program_of self.old).states opened.innermost opened.outer)) }
     {
         let Some(parent) = self.outer.pop() else {
             return Ok(());

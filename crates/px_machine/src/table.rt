@@ -90,7 +90,8 @@ impl Table {
         second: u32,
         answer: u32,
     ) -> Result<(), AllocError>
-        ensures only { (a b n : ℕ) → Tells self.new a b n → Tells self.old a b n ⊎ ((a ≡ first) × (b ≡ second) × (n ≡ answer)) }
+        ensures only { (a b n : ℕ) → Tells self.new a b n → Tells self.old a b n ⊎ ((a ≡ first) ×
+            (b ≡ second) × (n ≡ answer)) }
     {
         self.make_room(alloc)?;
         self.count = self.count.saturating_add(1);
@@ -119,7 +120,8 @@ impl Table {
 
 // The entries that are told, over so many places.
 fn spread(alloc: Global, entries: &[Entry], room: usize) -> Result<Vec<Entry>, AllocError>
-    ensures only { IfOk result (λ spread. (entry : Told) → entry.is_told ≡ true → IsIn spread.items entry → IsIn entries.now entry) }
+    ensures only { IfOk result (λ spread. (entry : Told) → entry.is_told ≡ true →
+        IsIn spread.items entry → IsIn entries.now entry) }
 {
     let mut spread = vec![in alloc; NOTHING; room]?;
     for entry in entries {
@@ -130,7 +132,8 @@ fn spread(alloc: Global, entries: &[Entry], room: usize) -> Result<Vec<Entry>, A
 
 // Writes an entry, if it is told.
 fn carry(entries: &mut Vec<Entry>, entry: Entry)
-    ensures only { (other : Told) → IsIn entries.new.items other → IsIn entries.old.items other ⊎ (other ≡ entry) }
+    ensures only { (other : Told) → IsIn entries.new.items other → IsIn entries.old.items other ⊎
+        (other ≡ entry) }
 {
     if !entry.is_told {
         return;
@@ -140,7 +143,8 @@ fn carry(entries: &mut Vec<Entry>, entry: Entry)
 
 // Writes an entry at a free one of its places, or else at the first of them.
 fn write(entries: &mut Vec<Entry>, entry: Entry)
-    ensures only { (other : Told) → IsIn entries.new.items other → IsIn entries.old.items other ⊎ (other ≡ entry) }
+    ensures only { (other : Told) → IsIn entries.new.items other → IsIn entries.old.items other ⊎
+        (other ≡ entry) }
 {
     let place = free_place(entries.as_slice(), hash_of_two(entry.first, entry.second));
     if place < entries.len() {

@@ -74,7 +74,8 @@ pub fn next_item<S: Source>(items: &mut Items, source: &mut S) -> Result<Option<
     }
 }
 
-/// Takes an item: a document is kept, and those that were kept are compared before a filter is added.
+// Takes an item: a document is kept, and those that were kept are compared before a filter is
+// added.
 fn take_item(
     alloc: Global,
     item: Item,
@@ -93,7 +94,7 @@ fn take_item(
     }
 }
 
-/// Keeps a document.
+// Keeps a document.
 fn keep(documents: &mut Vec<Doc>, doc: Doc) -> Result<(), Trouble> {
     match documents.push(doc) {
         Ok(()) => Ok(()),
@@ -101,7 +102,7 @@ fn keep(documents: &mut Vec<Doc>, doc: Doc) -> Result<(), Trouble> {
     }
 }
 
-/// Compares over documents, under the filters of a journal.
+// Compares over documents, under the filters of a journal.
 fn compare_all(
     alloc: Global,
     journal: &Journal,
@@ -116,7 +117,7 @@ fn compare_all(
     compare_each(alloc, &program, live.as_slice(), documents, counts)
 }
 
-/// Compares over documents, under filters and their program.
+// Compares over documents, under filters and their program.
 fn compare_each(
     alloc: Global,
     program: &Arc<Program>,
@@ -138,7 +139,7 @@ fn compare_each(
 }
 
 impl Counts {
-    /// Counts a document, of which these ids are right, and others gave these.
+    // Counts a document, of which these ids are right, and others gave these.
     fn count(&mut self, right: &Ids, given: &[&Ids], forgot: bool) {
         self.documents = self.documents.saturating_add(1);
         self.ids = self.ids.saturating_add(right.as_slice().len() as u64);

@@ -24,7 +24,8 @@ const MOST_EVENTS: usize = 1_000_000_000;
 
 /// The events of a document.
 pub fn events_of(alloc: Global, doc: &Doc) -> Result<Vec<Event>, Trouble>
-    ensures tree { IfOk result (λ events. (root : Root) × (events.items ≡ spelling.events_of root)) }
+    ensures tree { IfOk result (λ events. (root : Root) ×
+        (events.items ≡ spelling.events_of root)) }
 {
     let mut reader = Reader::new(alloc)?;
     let mut events = Vec::new(alloc);
@@ -35,7 +36,8 @@ pub fn events_of(alloc: Global, doc: &Doc) -> Result<Vec<Event>, Trouble>
 
 /// The events of the document that bytes spell.
 pub fn events_in(alloc: Global, document: &[u8]) -> Result<Vec<Event>, Trouble>
-    ensures tree { IfOk result (λ events. (root : Root) × (events.items ≡ spelling.events_of root)) }
+    ensures tree { IfOk result (λ events. (root : Root) ×
+        (events.items ≡ spelling.events_of root)) }
 {
     let doc = Doc::of(alloc, Bytes::of(alloc, document)?)?;
     events_of(alloc, &doc)
@@ -52,10 +54,11 @@ pub fn ids_by_machine(machine: &mut Machine, events: &[Event]) -> Result<Ids, Al
     machine.finish()
 }
 
-/// Gives the machine all events of a document.
+// Gives the machine all events of a document.
 fn take_all(machine: &mut Machine, events: &[Event]) -> Result<(), AllocError>
     requires ready { (program : Automata) × machines.HasRun machine.old program [] }
-    ensures ok { OnOk result ((program : Automata) → machines.HasRun machine.old program [] → machines.HasRun machine.new program events.now) }
+    ensures ok { OnOk result ((program : Automata) → machines.HasRun machine.old program [] →
+        machines.HasRun machine.new program events.now) }
     ensures same { program_of machine.new ≡ program_of machine.old }
 {
     for event in events {
@@ -74,7 +77,8 @@ pub fn ids_by_runner<M: Memo>(alloc: Global, memo: &mut M, events: &[Event]) -> 
 
 /// The machine behind the events of a document.
 pub fn run_over<M: Memo>(alloc: Global, memo: &mut M, events: &[Event]) -> Result<Runner, Trouble>
-    ensures run { IfOk result (λ runner. HasRun M.automata M.stands_for memo.new runner events.now) }
+    ensures run { IfOk result (λ runner. HasRun M.automata M.stands_for memo.new runner
+        events.now) }
 {
     if events.len() > MOST_EVENTS {
         return Err(Trouble::Feed);

@@ -1,5 +1,5 @@
-//! px_trial: a tool for comparisons and benchmarks. It is no part of the product, and nothing stands
-//! on it.
+//! px_trial: a tool for comparisons and benchmarks. It is no part of the product, and nothing
+//! stands on it.
 //!
 //! `px_trial compare` reads a feed of adds and documents from standard input, computes the ids of
 //! each document by the two machines and by the plain evaluator, and prints how many documents
@@ -46,7 +46,7 @@ const USAGE: &str = "usage: px_trial compare | read | times N";
 /// The most filters of which times are printed.
 const MOST_FILTERS: u32 = 50_000;
 
-/// The words behind the program's name.
+// The words behind the program's name.
 fn words_of(rt: &(impl Env + Alloc<A = Global>)) -> Result<Vec<String>, Trouble> {
     match env::args(rt) {
         Ok(args) => Ok(args.skip(1).collect(rt.alloc())?),
@@ -55,7 +55,7 @@ fn words_of(rt: &(impl Env + Alloc<A = Global>)) -> Result<Vec<String>, Trouble>
     }
 }
 
-/// Compares, and prints the counts: the status.
+// Compares, and prints the counts: the status.
 fn print_comparison<S: Source>(
     rt: &(impl Print + Alloc<A = Global>),
     source: &mut S,
@@ -74,7 +74,7 @@ fn print_comparison<S: Source>(
     }
 }
 
-/// Prints how many events the document has: the status.
+// Prints how many events the document has: the status.
 fn print_events<S: Source>(
     rt: &(impl Print + Alloc<A = Global>),
     source: &mut S,
@@ -86,7 +86,7 @@ fn print_events<S: Source>(
     }
 }
 
-/// Prints the times for as many filters as a word says: the status.
+// Prints the times for as many filters as a word says: the status.
 fn print_times(
     rt: &(impl Clock + Print + Alloc<A = Global>),
     word: Option<&String>,
@@ -103,7 +103,7 @@ fn print_times(
     }
 }
 
-/// Prints how the program is called.
+// Prints how the program is called.
 fn print_usage(rt: &impl Print) -> Result<u8, Trouble> {
     match println!(rt; "{USAGE}") {
         Ok(()) => Ok(0),
@@ -111,7 +111,7 @@ fn print_usage(rt: &impl Print) -> Result<u8, Trouble> {
     }
 }
 
-/// Does what the words ask for: the status.
+// Does what the words ask for: the status.
 fn run<S: Source>(
     rt: &(impl Clock + Env + Print + Alloc<A = Global>),
     source: &mut S,

@@ -34,7 +34,7 @@ pub fn time_quiet<R: Clock + Print>(
     time_machine(rt, alloc, program, &events)
 }
 
-/// The same by the machine that makes steps.
+// The same by the machine that makes steps.
 fn time_runner<R: Clock + Print>(
     rt: &R,
     alloc: Global,
@@ -50,7 +50,7 @@ fn time_runner<R: Clock + Print>(
     print_time(rt, "quiet_by_runner", CALLS, nanos_since(rt, &start)?, ids)
 }
 
-/// The same by the machine of `serial`.
+// The same by the machine of `serial`.
 fn time_machine<R: Clock + Print>(
     rt: &R,
     alloc: Global,
@@ -66,7 +66,7 @@ fn time_machine<R: Clock + Print>(
     print_time(rt, "quiet_by_machine", CALLS, nanos_since(rt, &start)?, ids)
 }
 
-/// The ids by the machine that makes steps, often: how many there are.
+// The ids by the machine that makes steps, often: how many there are.
 fn ids_by_runner_often(
     alloc: Global,
     memo: &mut PrivateMemo,
@@ -81,7 +81,7 @@ fn ids_by_runner_often(
     Ok(ids)
 }
 
-/// The ids by the machine of `serial`, often: how many there are.
+// The ids by the machine of `serial`, often: how many there are.
 fn ids_by_machine_often(machine: &mut Machine, events: &[Event]) -> Result<usize, AllocError>
     requires ready { (program : Automata) × HasRun machine.old program [] }
     requires tree { (root : Root) × (events.now ≡ spelling.events_of root) }

@@ -32,14 +32,14 @@ pub fn count_events<S: Source>(alloc: Global, source: &mut S) -> Result<u64, Tro
     Err(Trouble::Feed)
 }
 
-/// So many zeros.
+// So many zeros.
 fn zeros(alloc: Global, count: usize) -> Result<Vec<u8>, AllocError>
     ensures { IfOk result (λ zeros. length zeros.items ≡ count) }
 {
     vec![in alloc; 0; count]
 }
 
-/// Reads the next piece, and appends the events that are known by it: whether more may come.
+// Reads the next piece, and appends the events that are known by it: whether more may come.
 fn read_piece<S: Source>(
     source: &mut S,
     buffer: &mut [u8],

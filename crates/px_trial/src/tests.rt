@@ -38,7 +38,7 @@ struct Outcome {
     steps: u64,
 }
 
-/// The program of filters, with the ids 1, 2 and so on.
+// The program of filters, with the ids 1, 2 and so on.
 fn program_of(alloc: Global, texts: &[&[u8]]) -> Result<Program, Trouble> {
     let mut journal = Journal::new(alloc);
     for text in texts {
@@ -48,13 +48,13 @@ fn program_of(alloc: Global, texts: &[&[u8]]) -> Result<Program, Trouble> {
     Ok(Program::build(alloc, live.as_slice())?)
 }
 
-/// The same, compiled.
+// The same, compiled.
 fn compiled_of(alloc: Global, texts: &[&[u8]]) -> Result<Arc<Compiled>, Trouble> {
     let program = program_of(alloc, texts)?;
     Ok(Compiled::of(alloc, shared(alloc, program)?)?)
 }
 
-/// The program of two equal filters with the ids 1 and 3; the filter between them was dropped.
+// The program of two equal filters with the ids 1 and 3; the filter between them was dropped.
 fn program_of_equals(alloc: Global) -> Result<Program, Trouble> {
     let mut journal = Journal::new(alloc);
     add_filter(alloc, &mut journal, b"/a")?;
@@ -65,7 +65,7 @@ fn program_of_equals(alloc: Global) -> Result<Program, Trouble> {
     Ok(Program::build(alloc, live.as_slice())?)
 }
 
-/// Drops a filter, which is live.
+// Drops a filter, which is live.
 fn drop_out(journal: &mut Journal, id: u32) -> Result<(), Trouble> {
     let change = Change::Drop { who: 0, id };
     if journal.refusal(&change).is_some() {
@@ -76,7 +76,7 @@ fn drop_out(journal: &mut Journal, id: u32) -> Result<(), Trouble> {
     Ok(())
 }
 
-/// Whether the machine accepts these ids of a document under filters, after so many steps.
+// Whether the machine accepts these ids of a document under filters, after so many steps.
 fn accepts(
     alloc: Global,
     texts: &[&[u8]],
@@ -88,14 +88,14 @@ fn accepts(
     Ok(outcome.ids.as_slice() == ids && outcome.steps == steps)
 }
 
-/// The machine at the end of a document under filters, with a memo of its own.
+// The machine at the end of a document under filters, with a memo of its own.
 fn judged(alloc: Global, texts: &[&[u8]], document: &[u8]) -> Result<Outcome, Trouble> {
     let events = events_in(alloc, document)?;
     let mut memo = PrivateMemo::new(alloc, compiled_of(alloc, texts)?);
     judged_by(alloc, &mut memo, &events)
 }
 
-/// The machine at the end of the events of a document.
+// The machine at the end of the events of a document.
 fn judged_by<M: Memo>(alloc: Global, memo: &mut M, events: &[Event]) -> Result<Outcome, Trouble>
     requires tree { (root : Root) × (events.now ≡ spelling.events_of root) }
 {
@@ -105,7 +105,7 @@ fn judged_by<M: Memo>(alloc: Global, memo: &mut M, events: &[Event]) -> Result<O
     Ok(Outcome { ids, steps })
 }
 
-/// The set of some numbers, which a set can hold.
+// The set of some numbers, which a set can hold.
 fn set_of(alloc: Global, numbers: &[u32]) -> Result<Set, Trouble> {
     let mut set = Set::empty(alloc);
     for n in numbers {
@@ -114,7 +114,7 @@ fn set_of(alloc: Global, numbers: &[u32]) -> Result<Set, Trouble> {
     Ok(set)
 }
 
-/// A set with one number more, unless it is too large for any set.
+// A set with one number more, unless it is too large for any set.
 fn with_number(alloc: Global, set: &Set, n: u32) -> Result<Set, Trouble> {
     if n >= 1_048_576 {
         return Err(Trouble::Full);
@@ -122,7 +122,7 @@ fn with_number(alloc: Global, set: &Set, n: u32) -> Result<Set, Trouble> {
     Ok(add(alloc, set, &Set::of(alloc, &[n])?)?)
 }
 
-/// Whether a set of one state is accepted with these ids.
+// Whether a set of one state is accepted with these ids.
 fn accepts_state(
     alloc: Global,
     program: &Program,
@@ -133,10 +133,10 @@ fn accepts_state(
     Ok(accept(alloc, program, &set)?.as_slice() == ids)
 }
 
-/// Threads may share a value of this type.
+// Threads may share a value of this type.
 fn is_shared<T: Send + Sync>(_shared: &T) {}
 
-/// Whether these are the need sets along the worked run.
+// Whether these are the need sets along the worked run.
 fn has_needs(alloc: Global, compiled: &Compiled) -> Result<bool, AllocError> {
     let ground = compiled.firsts();
     let outer = push(alloc, compiled, ground, 5)?;
@@ -150,12 +150,12 @@ fn has_needs(alloc: Global, compiled: &Compiled) -> Result<bool, AllocError> {
     )
 }
 
-/// Whether a set has these numbers.
+// Whether a set has these numbers.
 fn are(set: &Set, numbers: &[u32]) -> bool {
     set.as_slice() == numbers
 }
 
-/// The states of the worked filter, by their numbers.
+// The states of the worked filter, by their numbers.
 fn worked_states(alloc: Global) -> Result<Vec<State>, AllocError> {
     let mut states = Vec::new(alloc);
     states.push(value(Relation::Equal, b"1"))?;
@@ -169,7 +169,7 @@ fn worked_states(alloc: Global) -> Result<Vec<State>, AllocError> {
     Ok(states)
 }
 
-/// The state of a step whose body is another state.
+// The state of a step whose body is another state.
 fn path(axis: Axis, test: Test, body: u32) -> State {
     State::Path {
         axis,
@@ -178,13 +178,13 @@ fn path(axis: Axis, test: Test, body: u32) -> State {
     }
 }
 
-/// The state of two parts.
+// The state of two parts.
 fn both(alloc: Global, one: u64, other: u64) -> Result<State, AllocError> {
     let parts = Words::of(Vec::from_slice(alloc, &[one, other])?);
     Ok(State::And { parts })
 }
 
-/// The state of a relation to the number of a digit.
+// The state of a relation to the number of a digit.
 fn value(relation: Relation, digit: &[u8; 1]) -> State
     requires digit { IsTrue (list_all is_digit digit.now) }
 {
@@ -192,7 +192,7 @@ fn value(relation: Relation, digit: &[u8; 1]) -> State
     State::Value { relation, value }
 }
 
-/// Whether the program has these states, and no others.
+// Whether the program has these states, and no others.
 fn has_states(program: &Program, states: &[State]) -> bool {
     for n in 0..program.states() {
         let Some(state) = states.get(n as usize) else {

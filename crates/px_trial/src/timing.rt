@@ -63,13 +63,13 @@ pub fn time_all<R: Clock + Print>(rt: &R, alloc: Global, count: u32) -> Result<(
     time_quiet(rt, alloc, program, compiled)
 }
 
-/// A journal with so many generated filters.
+// A journal with so many generated filters.
 fn generated(alloc: Global, count: u32) -> Result<Journal, Trouble> {
     let mut source = MemSource::new(generate(alloc, SEED, count, 0)?);
     added(alloc, &mut source, count)
 }
 
-/// A journal with the first filters of a feed, so many, which it has before all else.
+// A journal with the first filters of a feed, so many, which it has before all else.
 fn added<S: Source>(alloc: Global, source: &mut S, count: u32) -> Result<Journal, Trouble> {
     let mut items = Items::new(alloc)?;
     let mut journal = Journal::new(alloc);
@@ -82,8 +82,8 @@ fn added<S: Source>(alloc: Global, source: &mut S, count: u32) -> Result<Journal
     Ok(journal)
 }
 
-/// Times the adds of a journal's filters, so many, to another one, with a list of those that are
-/// live after each; and times one snapshot.
+// Times the adds of a journal's filters, so many, to another one, with a list of those that are
+// live after each; and times one snapshot.
 fn time_changes<R: Clock + Print>(
     rt: &R,
     alloc: Global,
@@ -101,8 +101,8 @@ fn time_changes<R: Clock + Print>(
     print_time(rt, "snapshot", 1, nanos, snapshot.as_slice().len())
 }
 
-/// Adds filters one by one to a new journal, and to the list of its live filters, which is the
-/// answer.
+// Adds filters one by one to a new journal, and to the list of its live filters, which is the
+// answer.
 fn added_again(alloc: Global, given: &[Numbered]) -> Result<Live, Trouble> {
     let mut journal = Journal::new(alloc);
     let mut live = Live::new(alloc);
@@ -112,7 +112,7 @@ fn added_again(alloc: Global, given: &[Numbered]) -> Result<Live, Trouble> {
     Ok(live)
 }
 
-/// Times one build, which is the answer.
+// Times one build, which is the answer.
 fn time_build<R: Clock + Print>(
     rt: &R,
     alloc: Global,
@@ -127,7 +127,7 @@ fn time_build<R: Clock + Print>(
     Ok(program)
 }
 
-/// Times what machines share beside a program, which is the answer.
+// Times what machines share beside a program, which is the answer.
 fn time_compiling<R: Clock + Print>(
     rt: &R,
     alloc: Global,
@@ -140,7 +140,7 @@ fn time_compiling<R: Clock + Print>(
     Ok(compiled)
 }
 
-/// Times all functions.
+// Times all functions.
 fn time_functions<R: Clock + Print>(
     rt: &R,
     alloc: Global,
@@ -156,7 +156,7 @@ fn time_functions<R: Clock + Print>(
     Ok(())
 }
 
-/// Calls a function as often as all are called: how many members its last answer has.
+// Calls a function as often as all are called: how many members its last answer has.
 fn call_often(
     alloc: Global,
     compiled: &Compiled,
@@ -170,7 +170,7 @@ fn call_often(
     Ok(members)
 }
 
-/// Calls a function once: how many members its answer has.
+// Calls a function once: how many members its answer has.
 fn call(
     alloc: Global,
     compiled: &Compiled,

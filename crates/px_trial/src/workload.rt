@@ -20,7 +20,8 @@ use std::sync::Arc;
 
 /// Adds the filter that a text writes, and changes nothing where that fails.
 pub fn add(alloc: Global, journal: &mut Journal, text: &[u8]) -> Result<(), Trouble>
-    ensures ok { OnOk result ((filter : Parsed) × IsText text.now (way_of filter) × (journal.new.changes ≡ journal.old.changes ++ Add 0 filter ∷ [])) }
+    ensures ok { OnOk result ((filter : Parsed) × IsText text.now (way_of filter) ×
+        (journal.new.changes ≡ journal.old.changes ++ Add 0 filter ∷ [])) }
     ensures err { OnErr result (journal.new.changes ≡ journal.old.changes) }
 {
     match parse(alloc, text) {
@@ -30,10 +31,11 @@ pub fn add(alloc: Global, journal: &mut Journal, text: &[u8]) -> Result<(), Trou
     }
 }
 
-/// Adds a filter, where it fits, and changes nothing where it does not.
+// Adds a filter, where it fits, and changes nothing where it does not.
 fn add_filter(journal: &mut Journal, filter: Filter) -> Result<(), Trouble>
     ensures ok { OnOk result (journal.new.changes ≡ journal.old.changes ++ Add 0 filter ∷ []) }
-    ensures full { result ≡ Err Trouble.Full → refusal (changes.history journal.old.changes) (changes.change (Add 0 filter)) ≡ None → ⊥ }
+    ensures full { result ≡ Err Trouble.Full →
+        refusal (changes.history journal.old.changes) (changes.change (Add 0 filter)) ≡ None → ⊥ }
     ensures err { OnErr result (journal.new.changes ≡ journal.old.changes) }
 {
     let change = Change::Add { who: 0, filter };
@@ -47,8 +49,10 @@ fn add_filter(journal: &mut Journal, filter: Filter) -> Result<(), Trouble>
 
 /// Adds a filter to a journal and to the list of its live filters, where it fits.
 pub fn add_to_both(journal: &mut Journal, live: &mut Live, filter: Filter) -> Result<(), Trouble>
-    requires lists { subscriptions live.old.filters ≡ histories.live (changes.history journal.old.changes) }
-    ensures lists { OnOk result (subscriptions live.new.filters ≡ histories.live (changes.history journal.new.changes)) }
+    requires lists { subscriptions live.old.filters ≡
+        histories.live (changes.history journal.old.changes) }
+    ensures lists { OnOk result (subscriptions live.new.filters ≡
+        histories.live (changes.history journal.new.changes)) }
 {
     let change = Change::Add { who: 0, filter };
     if journal.refusal(&change).is_some() {
@@ -66,7 +70,8 @@ pub fn add_to_both(journal: &mut Journal, live: &mut Live, filter: Filter) -> Re
 /// The live filters, of which a program can be built.
 pub fn filters(alloc: Global, journal: &Journal) -> Result<Live, Trouble>
     ensures live { IfOk result (λ live. AreLive (subscriptions live.filters)) }
-    ensures same { IfOk result (λ live. subscriptions live.filters ≡ histories.live (changes.history journal.now.changes)) }
+    ensures same { IfOk result (λ live. subscriptions live.filters ≡
+        histories.live (changes.history journal.now.changes)) }
 {
     live_filters_are_in_order();
     let _version = journal.version();

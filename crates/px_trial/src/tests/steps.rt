@@ -66,7 +66,7 @@ static STEPS: [(Call, &[u32]); 36] = [
     (Call::Add(&[], &[7]), &[7]),
 ];
 
-/// What a call answers.
+// What a call answers.
 fn answer_of(alloc: Global, compiled: &Compiled, call: &Call) -> Result<Set, Trouble> {
     let program = compiled.program();
     let set = match call {
@@ -80,7 +80,7 @@ fn answer_of(alloc: Global, compiled: &Compiled, call: &Call) -> Result<Set, Tro
     Ok(set)
 }
 
-/// Whether each of some steps has its answer.
+// Whether each of some steps has its answer.
 fn have_answers(
     alloc: Global,
     compiled: &Compiled,
