@@ -14,7 +14,7 @@ use Rattle.px_reader.specs.Reading.{HasRead, ReadsPart, EndsWhole, FailsBy, Fail
 use Rattle.px_reader.proofs.Endless.{never_truncated}
 use Rattle.px_reader.specs.Spelling.{events_of}
 use Rattle.px_reader.specs.Verdicts.{Verdict, HasVerdict, IsFaulty, IsTree}
-use Rattle.px_document.specs.Documents.{HasCome, Comes, GivesTree, GivesFault, IsFaultOf}
+use Rattle.px_document.specs.Documents.{HasCome, Comes, GivesTree, GivesFault, GivesFine, IsFaultOf, IsFineSoFar}
 use Rattle.px_document.specs.Stops.{stop_of}
 use Rattle.px_document.specs.declared.document.Document.{Document}
 use Rattle.px_document.specs.declared.stop.Stop.{Stop}
@@ -123,3 +123,23 @@ comes_still least left before now document new c e f =
 -- nothing has come yet
 pub comes_none : (left : Option (List ℕ)) (document : Document) → HasCome document [] → Comes 0 left left document
 comes_none left document come = record { bytes = []; taken = takes_nothing left; come = come; many = omega arith }
+
+-- what was read without a fault is fine so far
+pub fine_so_far : (reader : Progress) (bytes : List ℕ) (given : List Event) → HasRead reader bytes given → IsFineSoFar bytes
+fine_so_far reader bytes given r = record {
+  ended = r.reading.ended;
+  begun = r.reading.begun;
+  bytes_are = r.reading.bytes_are;
+  whole = r.reading.whole;
+  no_feed = r.reading.no_feed;
+  fine = r.reading.judged.fine;
+  small = r.reading.small;
+}
+
+-- the source met a fault behind what has come
+pub gives_fine : (least : ℕ) (left before now : Option (List ℕ)) (document : Document) → Comes least left before document → now ≡ before → GivesFine left now
+gives_fine least left before now document c e = record {
+  bytes = c.bytes;
+  taken = c.taken ∙ ap (option_map (λ rest. c.bytes ++ rest)) (sym e);
+  fine = fine_so_far document.reader c.bytes document.events.items c.come.read;
+}

@@ -1,3 +1,4 @@
 pub mod Coming
 pub mod Found
 pub mod Opened
+pub mod OneFinding

@@ -1,5 +1,5 @@
 -- A proof in front of a document, as they come from a source.
-use Rattle.std.proofs.Common.{◌≡◌, ◌<◌, ◌≤◌, ◌+◌, ℕ, List, [], ◌∷◌, ◌++◌, length, Result, Ok, Err, IfOk, IfErr, IfSome, Option, Some, None, refl, ap, sym, ◌∙◌, subst, arith, length-append, append_assoc}
+use Rattle.std.proofs.Common.{◌≡◌, ◌<◌, ◌≤◌, ◌+◌, ℕ, List, [], ◌∷◌, ◌++◌, length, Result, Ok, Err, IfOk, IfErr, IfSome, Option, Some, None, option_map, refl, ap, sym, ◌∙◌, subst, arith, length-append, append_assoc}
 use Rattle.px_io.specs.Flows.{TakesFrom, IsSpent}
 use Rattle.px_io.proofs.Flowing.{takes_both}
 use Rattle.px_reader.specs.declared.fault.DocFault.{DocFault}
@@ -10,11 +10,13 @@ use Rattle.px_explain.specs.declared.reading.ProofFault.{ProofFault}
 use Rattle.px_explain.specs.Incoming as incoming
 use Rattle.px_explain.specs.Incoming.{HasProof, HasTaken, TakesOn, FailsAtEnd}
 use Rattle.px_explain.specs.Openings.{AreLines, Opens, ProofThen, end_line}
+use Rattle.px_explain.specs.Texts.{text_of}
 use Rattle.px_explain.proofs.Incoming.{lines_more}
-use Rattle.px_document.specs.Documents.{HasCome, IsFaultOf}
-use Rattle.px_document.specs.Proofs.{Takes, EndsProof, OpensDocument, Halts, HaltsAt, HaltsIn, BeginsBadly}
+use Rattle.px_document.specs.Documents.{HasCome, GivesFine, IsFaultOf}
+use Rattle.px_document.specs.Proofs.{Takes, EndsProof, GivesFineOpening, OpensDocument, Halts, HaltsAt, HaltsIn, BeginsBadly, in_proof, in_document}
 use Rattle.px_document.specs.declared.document.Document.{Document}
 use Rattle.px_document.specs.declared.opening.Halt.{Halt}
+use Rattle.px_document.specs.declared.opening.Opened.{Opened}
 use Rattle.px_document.specs.declared.opening.Halt.TheVariants as halt
 use Rattle.px_document.specs.declared.stop.Stop.{Stop}
 use Rattle.px_document.specs.declared.stop.Stop.TheVariants as stop
@@ -109,3 +111,31 @@ opens_document left now reader document nodes finished p = record {
   opens = finished p.begun p.bytes p.has_proof;
   come = p.come;
 }
+
+-- the source met a fault before the proof ended
+pub fine_in_proof : (least : ℕ) (left before now : Option (List ℕ)) (reader : ProofReader) → Takes least left before reader → now ≡ before → GivesFineOpening left now
+fine_in_proof least left before now reader t e = record {
+  bytes = t.bytes;
+  taken = t.taken ∙ ap (option_map (λ rest. t.bytes ++ rest)) (sym e);
+  fine = in_proof reader.nodes.items reader.begun.items t.has_taken.lines t.has_taken.no_feed t.has_taken.short;
+}
+
+-- a part that was taken, where its end is given back
+followed : (front begun bytes : List ℕ) (left now : Option (List ℕ)) → bytes ≡ front ++ begun → TakesFrom left bytes now → TakesFrom left front (option_map (λ rest. begun ++ rest) now)
+followed front begun bytes left None e taken = taken
+followed front begun bytes left (Some rest) e taken = taken ∙ ap Some (ap (λ all. all ++ rest) e ∙ append_assoc front begun rest)
+
+-- a proof in front of another document
+goes_on : (nodes : List ProofNode) (begun more bytes : List ℕ) → AreLines nodes (end_line ++ begun) bytes → AreLines nodes (end_line ++ more) ((text_of nodes ++ end_line) ++ more)
+goes_on nodes begun more bytes a = record { small = a.small; few = a.few; bytes_are = append_assoc (text_of nodes) end_line more }
+
+-- the source met a fault behind the proof
+pub fine_behind : (left now after : Option (List ℕ)) (opened : Opened) → (o : OpensDocument left now opened) → GivesFine (option_map (λ rest. o.begun ++ rest) now) after → GivesFineOpening left after
+fine_behind left now after opened o g =
+    let front = text_of opened.proof ++ end_line in
+    record {
+      bytes = front ++ g.bytes;
+      taken = takes_both left (option_map (λ rest. o.begun ++ rest) now) after front g.bytes
+          (followed front o.begun o.bytes left now (o.opens.bytes_are ∙ sym (append_assoc (text_of opened.proof) end_line o.begun)) o.taken) g.taken;
+      fine = in_document opened.proof g.bytes (goes_on opened.proof o.begun g.bytes o.bytes o.opens) g.fine;
+    }

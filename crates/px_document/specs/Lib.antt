@@ -1,3 +1,4 @@
+pub mod CutShort
 pub mod Documents
 pub mod Findings
 pub mod Outputs

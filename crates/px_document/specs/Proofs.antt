@@ -1,5 +1,5 @@
 -- A proof in front of a document, that is read from a source.
-use Rattle.std.specs.Prelude.{◌≡◌, ◌≤◌, ◌++◌, ℕ, List, length, Option, Some}
+use Rattle.std.specs.Prelude.{◌≡◌, ◌≤◌, ◌++◌, ℕ, true, List, length, Option, Some}
 use Rattle.px_io.specs.Flows.{TakesFrom}
 use Rattle.px_reader.specs.Verdicts.{HasVerdict, IsFaulty}
 use Rattle.px_reader.specs.declared.fault.DocFault.{DocFault}
@@ -9,8 +9,8 @@ use Rattle.px_explain.specs.declared.node.ProofNode.{ProofNode}
 use Rattle.px_explain.specs.declared.proof_reader.ProofReader.{ProofReader}
 use Rattle.px_explain.specs.Incoming.{HasProof, HasTaken}
 use Rattle.px_explain.specs.Incoming as incoming
-use Rattle.px_explain.specs.Openings.{Opens, ProofThen}
-use Rattle.px_document.specs.Documents.{HasCome, IsFaultOf}
+use Rattle.px_explain.specs.Openings.{AreLines, Opens, ProofThen, has_no_feed}
+use Rattle.px_document.specs.Documents.{HasCome, IsFaultOf, IsFineSoFar}
 use Rattle.px_document.specs.declared.document.Document.{Document}
 use Rattle.px_document.specs.declared.opening.Halt.{Halt}
 use Rattle.px_document.specs.declared.opening.Halt.TheVariants as halt
@@ -72,3 +72,16 @@ HaltsIn (halt.Proof fault) bytes = (more : List ℕ) → incoming.IsFaultOf faul
 HaltsIn (halt.Document (Doc fault)) bytes = BeginsBadly fault bytes
 HaltsIn (halt.Document Source) bytes = ⊥
 HaltsIn (halt.Document Memory) bytes = Unit {0}
+
+-- No line that is whole in the bytes is at fault: they are lines of a proof and what has begun of the next line, or a whole proof and a document that is fine so far.
+pub data IsFineOpening : (bytes : List ℕ) → Type 0 where
+  in_proof : {bytes : List ℕ} (nodes : List ProofNode) (begun : List ℕ) →
+      AreLines nodes begun bytes → has_no_feed begun ≡ true → length begun ≤ 16 → IsFineOpening bytes
+  in_document : {bytes : List ℕ} (nodes : List ProofNode) (begun : List ℕ) →
+      Opens bytes (ProofThen nodes begun) → IsFineSoFar begun → IsFineOpening bytes
+
+-- What the source has given shows no fault of a proof and a document that go on.
+pub record GivesFineOpening (left now : Option (List ℕ)) : Type 0 where
+  pub bytes : List ℕ
+  pub taken : TakesFrom left bytes now
+  pub fine : IsFineOpening bytes

@@ -8,7 +8,7 @@ ghost use Rattle.px_text.specs.Nodes.{Root};
 ghost use Rattle.px_reader.specs.Spelling.{events_of};
 ghost use Rattle.px_reader.specs.Verdicts.{HasVerdict, IsTree, IsFaulty};
 ghost use Rattle.px_tree.specs.Trees as trees;
-ghost use Rattle.px_document.specs.Documents.{Comes, GivesFault, GivesTree, HasCome, IsFaultOf};
+ghost use Rattle.px_document.specs.Documents.{Comes, GivesFault, GivesFine, GivesTree, HasCome, IsFaultOf};
 
 use crate::stop::Stop;
 use px_io::{ReadAnswer, Source};
@@ -54,7 +54,8 @@ impl Document {
     }
 
     /// The tree of the document, with what is left in the source. The source is read to its end,
-    /// or to where the document's fault shows. It takes memory for the events and the tree.
+    /// or to where the document's fault shows. It takes memory for the events and the tree. Where the
+    /// source meets a fault, no line that was read whole is at fault.
     pub fn read_tree<S: Source>(
         mut self,
         alloc: Global,
@@ -68,6 +69,8 @@ impl Document {
         ensures fault { (left : Option (List ℕ)) (fault : DocFault) → Comes 0 left (S.left source.old) self →
             result ≡ Err (Stop.Doc fault) → GivesFault left (S.left source.new) fault }
         ensures failed { result ≡ Err Stop.Source → Rose (S.faults source.old) (S.faults source.new) }
+        ensures not_at_fault { (left : Option (List ℕ)) → Comes 0 left (S.left source.old) self →
+            result ≡ Err Stop.Source → GivesFine left (S.left source.new) }
         ensures never_falls { S.faults source.old ≤ S.faults source.new }
     {
         for _ in 0..MOST_READS {
@@ -89,6 +92,8 @@ impl Document {
         ensures fault { (least : ℕ) (left : Option (List ℕ)) (fault : DocFault) → Comes least left (S.left source.old) self.old →
             result ≡ Err (Stop.Doc fault) → GivesFault left (S.left source.new) fault }
         ensures failed { result ≡ Err Stop.Source → Rose (S.faults source.old) (S.faults source.new) }
+        ensures not_at_fault { (least : ℕ) (left : Option (List ℕ)) → Comes least left (S.left source.old) self.old →
+            result ≡ Err Stop.Source → GivesFine left (S.left source.new) }
         ensures never_falls { S.faults source.old ≤ S.faults source.new }
         ensures room { length buffer.new ≡ length buffer.old }
     {

@@ -6,10 +6,13 @@ ghost use Rattle.px_xpath.specs.Whole.{filter as way_of};
 ghost use Rattle.px_tree.specs.Trees as trees;
 ghost use Rattle.px_text.specs.Nodes.{Root};
 ghost use Rattle.px_reader.specs.declared.fault.DocFault.{DocFault};
+ghost use Rattle.px_xpath.specs.Faults.{HasFault};
 ghost use Rattle.px_xpath.specs.Filters.{Way};
+ghost use Rattle.px_xpath.specs.declared.fault.FilterFault.{FilterFault};
 ghost use Rattle.px_xpath.specs.Meaning.{holds};
 ghost use Rattle.px_explain.specs.Table.{Justifies};
-ghost use Rattle.px_document.specs.Documents.{GivesFault, GivesTree};
+ghost use Rattle.px_document.specs.CutShort.{CutAtDocument};
+ghost use Rattle.px_document.specs.Documents.{GivesFault, GivesFine, GivesTree};
 ghost use Rattle.px_document.specs.Outputs.{Explains, ExplainsDocument, ExplainsTree, IsFound, IsFoundUnder};
 ghost use Rattle.px_document.specs.Stops.{no_filter_of, outcome_of};
 
@@ -24,10 +27,13 @@ use px_xpath::{Filter, ParseFault, parse};
 use std::alloc::Global;
 
 /// What the document that is left in the source is explained by under the filter that a text
-/// writes. A filter that is refused is found before anything is read.
+/// writes. A filter that is refused is found before anything is read. Where the source meets a
+/// fault, no line that was read whole is at fault.
 pub fn explanation<S: Source>(alloc: Global, text: &[u8], source: &mut S) -> Result<Finding, Cut>
     ensures found { IfOk result (λ finding. IsFound (Explains text.now) (S.left source.old) (S.left source.new) finding) }
     ensures failed { result ≡ Err Cut.Source → Rose (S.faults source.old) (S.faults source.new) }
+    ensures not_at_fault { result ≡ Err Cut.Source → CutAtDocument text.now (S.left source.old) (S.left source.new) }
+    ensures unread { (fault : FilterFault) → HasFault text.now fault → S.left source.new ≡ S.left source.old }
     ensures never_falls { S.faults source.old ≤ S.faults source.new }
 {
     match parse(alloc, text) {
@@ -50,6 +56,7 @@ pub fn no_filter(fault: ParseFault) -> Result<Finding, Cut>
 fn explained<S: Source>(alloc: Global, filter: &Filter, source: &mut S) -> Result<Finding, Cut>
     ensures found { IfOk result (λ finding. IsFoundUnder (λ bytes. ExplainsDocument (way_of filter.now) bytes) (S.left source.old) (S.left source.new) finding) }
     ensures failed { result ≡ Err Cut.Source → Rose (S.faults source.old) (S.faults source.new) }
+    ensures not_at_fault { result ≡ Err Cut.Source → GivesFine (S.left source.old) (S.left source.new) }
     ensures never_falls { S.faults source.old ≤ S.faults source.new }
 {
     match read_document(alloc, source) {
@@ -63,6 +70,7 @@ fn read_document<S: Source>(alloc: Global, source: &mut S) -> Result<Tree, Stop>
     ensures tree { IfOk result (λ tree. GivesTree (S.left source.old) (S.left source.new) (trees.tree tree)) }
     ensures fault { (fault : DocFault) → result ≡ Err (Stop.Doc fault) → GivesFault (S.left source.old) (S.left source.new) fault }
     ensures failed { result ≡ Err Stop.Source → Rose (S.faults source.old) (S.faults source.new) }
+    ensures not_at_fault { result ≡ Err Stop.Source → GivesFine (S.left source.old) (S.left source.new) }
     ensures never_falls { S.faults source.old ≤ S.faults source.new }
 {
     let mut storage = buffer(alloc)?;

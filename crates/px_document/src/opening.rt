@@ -5,7 +5,7 @@ ghost use Rattle.px_io.specs.Faults.{Rose};
 ghost use Rattle.px_explain.specs.Incoming as proofs;
 ghost use Rattle.px_explain.specs.Incoming.{HasProof, HasTaken, TakesOn};
 ghost use Rattle.px_document.specs.Documents.{HasCome};
-ghost use Rattle.px_document.specs.Proofs.{EndsProof, Halts, HaltsAt, HaltsIn, OpensDocument, Takes};
+ghost use Rattle.px_document.specs.Proofs.{EndsProof, GivesFineOpening, Halts, HaltsAt, HaltsIn, OpensDocument, Takes};
 
 use crate::document::Document;
 use crate::stop::Stop;
@@ -43,6 +43,7 @@ pub fn read_opening<S: Source>(
     ensures opened { IfOk result (λ opened. OpensDocument (S.left source.old) (S.left source.new) opened) }
     ensures halted { IfErr result (λ halt. Halts halt (S.left source.old)) }
     ensures failed { result ≡ Err (Halt.Document Stop.Source) → Rose (S.faults source.old) (S.faults source.new) }
+    ensures not_at_fault { result ≡ Err (Halt.Document Stop.Source) → GivesFineOpening (S.left source.old) (S.left source.new) }
     ensures never_falls { S.faults source.old ≤ S.faults source.new }
     ensures room { length buffer.new ≡ length buffer.old }
 {
@@ -83,6 +84,8 @@ fn read_piece<S: Source>(
         EndsProof left (S.left source.new) proof.new document)) }
     ensures halted { IfErr result (λ halt. (least : ℕ) (left : Option (List ℕ)) → Takes least left (S.left source.old) proof.old → Halts halt left) }
     ensures failed { result ≡ Err (Halt.Document Stop.Source) → Rose (S.faults source.old) (S.faults source.new) }
+    ensures not_at_fault { (least : ℕ) (left : Option (List ℕ)) → Takes least left (S.left source.old) proof.old →
+        result ≡ Err (Halt.Document Stop.Source) → GivesFineOpening left (S.left source.new) }
     ensures never_falls { S.faults source.old ≤ S.faults source.new }
     ensures room { length buffer.new ≡ length buffer.old }
 {

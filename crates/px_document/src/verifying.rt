@@ -4,10 +4,13 @@ ghost use Rattle.std.specs.Prelude.{◌≡◌, ◌<◌, ◌≤◌, IfOk, Err, Op
 ghost use Rattle.px_io.specs.Faults.{Rose};
 ghost use Rattle.px_reader.specs.Verdicts.{IsTree};
 ghost use Rattle.px_tree.specs.Trees as trees;
+ghost use Rattle.px_xpath.specs.Faults.{HasFault};
 ghost use Rattle.px_xpath.specs.Whole.{filter as way_of};
+ghost use Rattle.px_xpath.specs.declared.fault.FilterFault.{FilterFault};
+ghost use Rattle.px_document.specs.CutShort.{CutAtProof};
 ghost use Rattle.px_document.specs.Documents.{HasCome};
 ghost use Rattle.px_document.specs.Outputs.{IsFound, IsFoundUnder, Verifies, VerifiesInput, VerifiesVerdict};
-ghost use Rattle.px_document.specs.Proofs.{OpensDocument};
+ghost use Rattle.px_document.specs.Proofs.{GivesFineOpening, OpensDocument};
 ghost use Rattle.px_document.specs.Stops.{halt_of};
 
 use crate::document::buffer;
@@ -24,10 +27,13 @@ use std::alloc::Global;
 
 /// What the proof and the document that are left in the source show of the filter that a text
 /// writes. A filter that is refused is found before anything is read, and then a proof that is, the
-/// document's fault, and a wrong node of the proof.
+/// document's fault, and a wrong node of the proof. Where the source meets a fault, no line that was
+/// read whole is at fault.
 pub fn verification<S: Source>(alloc: Global, text: &[u8], source: &mut S) -> Result<Finding, Cut>
     ensures found { IfOk result (λ finding. IsFound (Verifies text.now) (S.left source.old) (S.left source.new) finding) }
     ensures failed { result ≡ Err Cut.Source → Rose (S.faults source.old) (S.faults source.new) }
+    ensures not_at_fault { result ≡ Err Cut.Source → CutAtProof text.now (S.left source.old) (S.left source.new) }
+    ensures unread { (fault : FilterFault) → HasFault text.now fault → S.left source.new ≡ S.left source.old }
     ensures never_falls { S.faults source.old ≤ S.faults source.new }
 {
     match parse(alloc, text) {
@@ -40,6 +46,7 @@ pub fn verification<S: Source>(alloc: Global, text: &[u8], source: &mut S) -> Re
 fn verified<S: Source>(alloc: Global, filter: &Filter, source: &mut S) -> Result<Finding, Cut>
     ensures found { IfOk result (λ finding. IsFoundUnder (λ bytes. VerifiesInput (way_of filter.now) bytes) (S.left source.old) (S.left source.new) finding) }
     ensures failed { result ≡ Err Cut.Source → Rose (S.faults source.old) (S.faults source.new) }
+    ensures not_at_fault { result ≡ Err Cut.Source → GivesFineOpening (S.left source.old) (S.left source.new) }
     ensures never_falls { S.faults source.old ≤ S.faults source.new }
 {
     let Ok(mut storage) = buffer(alloc) else {
@@ -65,6 +72,8 @@ fn verified_behind<S: Source>(
     ensures found { (left : Option (List ℕ)) → OpensDocument left (S.left source.old) opened →
         IfOk result (λ finding. IsFoundUnder (λ bytes. VerifiesInput (way_of filter.now) bytes) left (S.left source.new) finding) }
     ensures failed { result ≡ Err Cut.Source → Rose (S.faults source.old) (S.faults source.new) }
+    ensures not_at_fault { (left : Option (List ℕ)) → OpensDocument left (S.left source.old) opened →
+        result ≡ Err Cut.Source → GivesFineOpening left (S.left source.new) }
     ensures never_falls { S.faults source.old ≤ S.faults source.new }
 {
     let Opened { proof, document } = opened;

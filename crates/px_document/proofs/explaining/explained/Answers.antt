@@ -15,3 +15,9 @@ returns-in-Err-clause-found g c = stopped_finding (filter c.args.filter.now) _ _
 
 pub returns-in-Err-clause-failed : goal.returns-in-Err-clause-failed
 returns-in-Err-clause-failed g c = λ e. c.in-Err.ensures.failed (ap Err (stopped_by_source c.in-Err.stop c.outcome.result c.outcome.ensures e))
+
+pub returns-in-Ok-clause-not_at_fault : goal.returns-in-Ok-clause-not_at_fault
+returns-in-Ok-clause-not_at_fault g c = λ e. absurd (c.explained_tree.ensures.not_read e)
+
+pub returns-in-Err-clause-not_at_fault : goal.returns-in-Err-clause-not_at_fault
+returns-in-Err-clause-not_at_fault g c = λ e. c.in-Err.ensures.not_at_fault (ap Err (stopped_by_source c.in-Err.stop c.outcome.result c.outcome.ensures e))

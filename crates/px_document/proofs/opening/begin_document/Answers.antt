@@ -1,5 +1,5 @@
 -- What stops a document at its first bytes.
-use Rattle.std.proofs.Common.{Err, ap, refl, [], sym, ◌∙◌}
+use Rattle.std.proofs.Common.{Err, refl, []}
 use Rattle.px_document.proofs.Opened.{halts_at}
 use Rattle.px_document.proofs.opening.begin_document.Goals as goal
 

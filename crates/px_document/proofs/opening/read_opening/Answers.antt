@@ -1,5 +1,5 @@
 -- The pieces that were taken are the proof.
-use Rattle.std.proofs.Common.{Ok, [], ap, arith}
+use Rattle.std.proofs.Common.{[], arith}
 use Rattle.px_io.proofs.Counts.{rose_later}
 use Rattle.px_io.proofs.Flowing.{takes_nothing}
 use Rattle.px_explain.proofs.Incoming.{taken_few}
@@ -29,3 +29,6 @@ pub unreachable-requires : goal.unreachable-requires
 unreachable-requires g c =
     let takes = c.loop.invariant.takes in
     omega (arith, takes.many, taken_few c.loop.proof takes.bytes takes.has_taken, c.loop-test.false)
+
+pub returns-in-Err-clause-not_at_fault : goal.returns-in-Err-clause-not_at_fault
+returns-in-Err-clause-not_at_fault g c = λ e. c.in-Err.ensures.not_at_fault _ _ c.loop.invariant.takes (cc)

@@ -1,7 +1,7 @@
 -- A piece more is taken, or stops the reading.
-use Rattle.std.proofs.Common.{take, arith}
+use Rattle.std.proofs.Common.{arith}
 use Rattle.std.proofs.lemmas.List.{length-take-le}
-use Rattle.px_document.proofs.Opened.{takes_more, ends_in, stops_in, ends_early}
+use Rattle.px_document.proofs.Opened.{takes_more, ends_in, stops_in, ends_early, fine_in_proof}
 use Rattle.px_document.proofs.opening.read_piece.Goals as goal
 
 pub returns-in-Got-clause-more : goal.returns-in-Got-clause-more
@@ -20,3 +20,9 @@ returns-in-End-clause-halted g c = ends_early c.end.result c.args.proof.now _ c.
 
 pub returns-in-Got-clause-failed : goal.returns-in-Got-clause-failed
 returns-in-Got-clause-failed g c = λ e. absurd (c.take_piece.ensures.not_read e)
+
+pub returns-in-Got-clause-not_at_fault : goal.returns-in-Got-clause-not_at_fault
+returns-in-Got-clause-not_at_fault g c = λ least left t e. absurd (c.take_piece.ensures.not_read e)
+
+pub returns-in-Failed-clause-not_at_fault : goal.returns-in-Failed-clause-not_at_fault
+returns-in-Failed-clause-not_at_fault g c = λ least left t e. fine_in_proof least left _ _ c.args.proof.now t c.in-Failed.ensures.next

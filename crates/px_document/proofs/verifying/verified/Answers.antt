@@ -10,3 +10,6 @@ returns-clause-found g c = halted_finding (filter c.args.filter.now) _ _ c.in-Er
 
 pub returns-clause-failed : goal.returns-clause-failed
 returns-clause-failed g c = λ e. c.in-Err.ensures.failed (ap Err (halted_by_source c.in-Err.halt c.halted.result c.halted.ensures e))
+
+pub returns-clause-not_at_fault : goal.returns-clause-not_at_fault
+returns-clause-not_at_fault g c = λ e. c.in-Err.ensures.not_at_fault (ap Err (halted_by_source c.in-Err.halt c.halted.result c.halted.ensures e))

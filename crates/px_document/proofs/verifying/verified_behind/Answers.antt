@@ -2,6 +2,7 @@
 use Rattle.std.proofs.Common.{Err, ap}
 use Rattle.px_xpath.specs.Whole.{filter}
 use Rattle.px_document.proofs.Coming.{comes_at}
+use Rattle.px_document.proofs.Opened.{fine_behind}
 use Rattle.px_document.proofs.Found.{verified_finding, verified_stopped, stopped_by_source}
 use Rattle.px_document.proofs.verifying.verified_behind.Goals as goal
 
@@ -16,3 +17,8 @@ returns-clause-found g c = λ left o.
 
 pub returns-clause-failed : goal.returns-clause-failed
 returns-clause-failed g c = λ e. c.in-Err.ensures.failed (ap Err (stopped_by_source c.in-Err.stop c.outcome.result c.outcome.ensures e))
+
+pub returns-clause-not_at_fault : goal.returns-clause-not_at_fault
+returns-clause-not_at_fault g c = λ left o e.
+    fine_behind left _ _ c.args.opened o
+    (c.in-Err.ensures.not_at_fault _ (comes_at (g.S.Source.left c.args.source.now) c.args.opened.document o.begun o.come) (ap Err (stopped_by_source c.in-Err.stop c.outcome.result c.outcome.ensures e)))

@@ -1,5 +1,5 @@
 -- The events of the whole document are those of its tree.
-use Rattle.std.proofs.Common.{◌≡◌, Err, refl, ◌∙◌}
+use Rattle.std.proofs.Common.{◌≡◌, refl, ◌∙◌}
 use Rattle.px_reader.specs.declared.fault.DocFault.{DocFault}
 use Rattle.px_tree.specs.Trees.{tree}
 use Rattle.px_document.specs.declared.stop.Stop.TheVariants as stop

@@ -2,7 +2,7 @@
 use Rattle.std.proofs.Common.{◌++◌, take, arith}
 use Rattle.std.proofs.lemmas.List.{length-take-le}
 use Rattle.px_io.proofs.Flowing.{takes_both}
-use Rattle.px_document.proofs.Coming.{comes_more, shows_fault}
+use Rattle.px_document.proofs.Coming.{comes_more, gives_fine, shows_fault}
 use Rattle.px_document.proofs.document.Document.read_piece.Goals as goal
 
 pub returns-in-Ok-clause-more : goal.returns-in-Ok-clause-more
@@ -15,3 +15,6 @@ returns-in-Err-clause-fault g c = λ least left fault comes e.
     let next = c.in-Got.ensures.next in
     shows_fault left _ (comes.bytes ++ take c.in-Got.count c.read.new.into) fault (takes_both left _ _ comes.bytes _ comes.taken next.2)
     (c.in-Err.ensures.fault comes.bytes fault comes.come (cc))
+
+pub returns-in-Failed-clause-not_at_fault : goal.returns-in-Failed-clause-not_at_fault
+returns-in-Failed-clause-not_at_fault g c = λ least left comes e. gives_fine least left _ _ c.args.self.now comes c.in-Failed.ensures.next

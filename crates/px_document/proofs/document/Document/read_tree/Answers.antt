@@ -1,8 +1,7 @@
 -- The pieces that have come are the document.
-use Rattle.std.proofs.Common.{Ok, Option, List, ℕ, ap, arith}
+use Rattle.std.proofs.Common.{Ok, ap, arith}
 use Rattle.px_io.proofs.Counts.{rose_later}
 use Rattle.px_tree.specs.Trees.{tree}
-use Rattle.px_document.specs.Documents.{Comes}
 use Rattle.px_document.proofs.Coming.{comes_at, comes_still, gives_tree, gives_fault}
 use Rattle.px_document.proofs.document.Document.read_tree.Goals as goal
 
@@ -47,3 +46,6 @@ unreachable-requires g c =
     let first = c.requires.come in
     let now = c.loop.invariant.comes _ (comes_at (g.S.Source.left c.args.source.now) c.args.self first.0 first.1) in
     omega (arith, now.many, now.come.read.reading.small, c.loop-test.false)
+
+pub returns-in-Err-clause-not_at_fault : goal.returns-in-Err-clause-not_at_fault
+returns-in-Err-clause-not_at_fault g c = λ left comes e. c.in-Err.ensures.not_at_fault _ left (c.loop.invariant.comes left comes) (cc)
