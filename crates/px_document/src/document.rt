@@ -43,8 +43,10 @@ impl Document {
 
     /// Takes the next bytes. After a fault the document may only be dropped.
     pub fn take(&mut self, piece: &[u8]) -> Result<(), Stop>
-        ensures come { OnOk result ((bytes : List ℕ) → HasCome self.old bytes → HasCome self.new (bytes ++ piece.now)) }
-        ensures fault { (bytes : List ℕ) (fault : DocFault) → HasCome self.old bytes → result ≡ Err (Stop.Doc fault) → IsFaultOf fault (bytes ++ piece.now) }
+        ensures come { OnOk result ((bytes : List ℕ) → HasCome self.old bytes →
+            HasCome self.new (bytes ++ piece.now)) }
+        ensures fault { (bytes : List ℕ) (fault : DocFault) → HasCome self.old bytes →
+            result ≡ Err (Stop.Doc fault) → IsFaultOf fault (bytes ++ piece.now) }
         ensures not_read { result ≡ Err Stop.Source → ⊥ }
     {
         match self.reader.feed(piece, &mut self.events) {
@@ -53,8 +55,8 @@ impl Document {
         }
     }
 
-    /// The tree of the document, with what is left in the source. The source is read to its end,
-    /// or to where the document's fault shows. It takes memory for the events and the tree. Where the
+    /// The tree of the document, with what is left in the source. The source is read to its end, or
+    /// to where the document's fault shows. It takes memory for the events and the tree. Where the
     /// source meets a fault, no line that was read whole is at fault.
     pub fn read_tree<S: Source>(
         mut self,
@@ -66,9 +68,11 @@ impl Document {
         requires come { (bytes : List ℕ) × HasCome self bytes }
         ensures tree { (left : Option (List ℕ)) → Comes 0 left (S.left source.old) self →
             IfOk result (λ tree. GivesTree left (S.left source.new) (trees.tree tree)) }
-        ensures fault { (left : Option (List ℕ)) (fault : DocFault) → Comes 0 left (S.left source.old) self →
+        ensures fault { (left : Option (List ℕ)) (fault : DocFault) →
+            Comes 0 left (S.left source.old) self →
             result ≡ Err (Stop.Doc fault) → GivesFault left (S.left source.new) fault }
-        ensures failed { result ≡ Err Stop.Source → Rose (S.faults source.old) (S.faults source.new) }
+        ensures failed { result ≡ Err Stop.Source →
+            Rose (S.faults source.old) (S.faults source.new) }
         ensures not_at_fault { (left : Option (List ℕ)) → Comes 0 left (S.left source.old) self →
             result ≡ Err Stop.Source → GivesFine left (S.left source.new) }
         ensures never_falls { S.faults source.old ≤ S.faults source.new }
@@ -83,16 +87,21 @@ impl Document {
         unreachable!()
     }
 
-    /// Takes the next piece of the source, if it is not at its end: whether it is.
+    // Takes the next piece of the source, if it is not at its end: whether it is.
     fn read_piece<S: Source>(&mut self, source: &mut S, buffer: &mut [u8]) -> Result<bool, Stop>
         requires { 0 < length buffer.old }
-        ensures more { result ≡ Ok false → (least : ℕ) (left : Option (List ℕ)) → Comes least left (S.left source.old) self.old →
+        ensures more { result ≡ Ok false → (least : ℕ) (left : Option (List ℕ)) →
+            Comes least left (S.left source.old) self.old →
             Comes (least + 1) left (S.left source.new) self.new }
-        ensures end { result ≡ Ok true → IsSpent (S.left source.new) × (S.left source.new ≡ S.left source.old) × (self.new ≡ self.old) }
-        ensures fault { (least : ℕ) (left : Option (List ℕ)) (fault : DocFault) → Comes least left (S.left source.old) self.old →
+        ensures end { result ≡ Ok true → IsSpent (S.left source.new) ×
+            (S.left source.new ≡ S.left source.old) × (self.new ≡ self.old) }
+        ensures fault { (least : ℕ) (left : Option (List ℕ)) (fault : DocFault) →
+            Comes least left (S.left source.old) self.old →
             result ≡ Err (Stop.Doc fault) → GivesFault left (S.left source.new) fault }
-        ensures failed { result ≡ Err Stop.Source → Rose (S.faults source.old) (S.faults source.new) }
-        ensures not_at_fault { (least : ℕ) (left : Option (List ℕ)) → Comes least left (S.left source.old) self.old →
+        ensures failed { result ≡ Err Stop.Source →
+            Rose (S.faults source.old) (S.faults source.new) }
+        ensures not_at_fault { (least : ℕ) (left : Option (List ℕ)) →
+            Comes least left (S.left source.old) self.old →
             result ≡ Err Stop.Source → GivesFine left (S.left source.new) }
         ensures never_falls { S.faults source.old ≤ S.faults source.new }
         ensures room { length buffer.new ≡ length buffer.old }
@@ -107,11 +116,13 @@ impl Document {
         }
     }
 
-    /// The tree of the document that has all come.
+    // The tree of the document that has all come.
     fn finish(mut self, alloc: Global) -> Result<Tree, Stop>
         requires come { (bytes : List ℕ) × HasCome self bytes }
-        ensures tree { (bytes : List ℕ) → HasCome self bytes → IfOk result (λ tree. HasVerdict bytes (IsTree (trees.tree tree))) }
-        ensures fault { (bytes : List ℕ) (fault : DocFault) → HasCome self bytes → result ≡ Err (Stop.Doc fault) → HasVerdict bytes (IsFaulty fault.line fault.kind) }
+        ensures tree { (bytes : List ℕ) → HasCome self bytes →
+            IfOk result (λ tree. HasVerdict bytes (IsTree (trees.tree tree))) }
+        ensures fault { (bytes : List ℕ) (fault : DocFault) → HasCome self bytes →
+            result ≡ Err (Stop.Doc fault) → HasVerdict bytes (IsFaulty fault.line fault.kind) }
         ensures not_read { result ≡ Err Stop.Source → ⊥ }
     {
         match self.reader.end(&mut self.events) {
@@ -121,10 +132,11 @@ impl Document {
     }
 }
 
-/// The tree of a document's events.
+// The tree of a document's events.
 fn tree_of(alloc: Global, events: &[Event]) -> Result<Tree, Stop>
     requires of_a_tree { (root : Root) × (events.now ≡ events_of root) }
-    ensures tree { (root : Root) → events.now ≡ events_of root → IfOk result (λ tree. trees.tree tree ≡ root) }
+    ensures tree { (root : Root) → events.now ≡ events_of root →
+        IfOk result (λ tree. trees.tree tree ≡ root) }
     ensures refused { IfErr result (λ stop. stop ≡ Stop.Memory) }
 {
     match build(alloc, events) {

@@ -30,10 +30,13 @@ use std::alloc::Global;
 /// writes. A filter that is refused is found before anything is read. Where the source meets a
 /// fault, no line that was read whole is at fault.
 pub fn explanation<S: Source>(alloc: Global, text: &[u8], source: &mut S) -> Result<Finding, Cut>
-    ensures found { IfOk result (λ finding. IsFound (Explains text.now) (S.left source.old) (S.left source.new) finding) }
+    ensures found { IfOk result (λ finding. IsFound (Explains text.now) (S.left source.old)
+        (S.left source.new) finding) }
     ensures failed { result ≡ Err Cut.Source → Rose (S.faults source.old) (S.faults source.new) }
-    ensures not_at_fault { result ≡ Err Cut.Source → CutAtDocument text.now (S.left source.old) (S.left source.new) }
-    ensures unread { (fault : FilterFault) → HasFault text.now fault → S.left source.new ≡ S.left source.old }
+    ensures not_at_fault { result ≡ Err Cut.Source →
+        CutAtDocument text.now (S.left source.old) (S.left source.new) }
+    ensures unread { (fault : FilterFault) → HasFault text.now fault →
+        S.left source.new ≡ S.left source.old }
     ensures never_falls { S.faults source.old ≤ S.faults source.new }
 {
     match parse(alloc, text) {
@@ -52,11 +55,14 @@ pub fn no_filter(fault: ParseFault) -> Result<Finding, Cut>
     }
 }
 
-/// What the document is explained by under the filter.
+// What the document is explained by under the filter.
 fn explained<S: Source>(alloc: Global, filter: &Filter, source: &mut S) -> Result<Finding, Cut>
-    ensures found { IfOk result (λ finding. IsFoundUnder (λ bytes. ExplainsDocument (way_of filter.now) bytes) (S.left source.old) (S.left source.new) finding) }
+    ensures found { IfOk result (λ finding. IsFoundUnder
+        (λ bytes. ExplainsDocument (way_of filter.now) bytes) (S.left source.old)
+        (S.left source.new) finding) }
     ensures failed { result ≡ Err Cut.Source → Rose (S.faults source.old) (S.faults source.new) }
-    ensures not_at_fault { result ≡ Err Cut.Source → GivesFine (S.left source.old) (S.left source.new) }
+    ensures not_at_fault { result ≡ Err Cut.Source →
+        GivesFine (S.left source.old) (S.left source.new) }
     ensures never_falls { S.faults source.old ≤ S.faults source.new }
 {
     match read_document(alloc, source) {
@@ -65,12 +71,15 @@ fn explained<S: Source>(alloc: Global, filter: &Filter, source: &mut S) -> Resul
     }
 }
 
-/// The tree of the document that is left in the source.
+// The tree of the document that is left in the source.
 fn read_document<S: Source>(alloc: Global, source: &mut S) -> Result<Tree, Stop>
-    ensures tree { IfOk result (λ tree. GivesTree (S.left source.old) (S.left source.new) (trees.tree tree)) }
-    ensures fault { (fault : DocFault) → result ≡ Err (Stop.Doc fault) → GivesFault (S.left source.old) (S.left source.new) fault }
+    ensures tree { IfOk result (λ tree. GivesTree (S.left source.old) (S.left source.new)
+        (trees.tree tree)) }
+    ensures fault { (fault : DocFault) → result ≡ Err (Stop.Doc fault) →
+        GivesFault (S.left source.old) (S.left source.new) fault }
     ensures failed { result ≡ Err Stop.Source → Rose (S.faults source.old) (S.faults source.new) }
-    ensures not_at_fault { result ≡ Err Stop.Source → GivesFine (S.left source.old) (S.left source.new) }
+    ensures not_at_fault { result ≡ Err Stop.Source →
+        GivesFine (S.left source.old) (S.left source.new) }
     ensures never_falls { S.faults source.old ≤ S.faults source.new }
 {
     let mut storage = buffer(alloc)?;
@@ -92,9 +101,10 @@ pub fn outcome(stop: Stop) -> Result<Finding, Cut>
     }
 }
 
-/// What the tree is explained by.
+// What the tree is explained by.
 fn explained_tree(alloc: Global, filter: &Filter, tree: &Tree) -> Result<Finding, Cut>
-    ensures found { IfOk result (λ finding. ExplainsTree (way_of filter.now) (trees.tree tree.now) finding) }
+    ensures found { IfOk result (λ finding. ExplainsTree (way_of filter.now) (trees.tree tree.now)
+        finding) }
     ensures not_read { result ≡ Err Cut.Source → ⊥ }
 {
     match explain(alloc, filter, tree) {
@@ -104,9 +114,10 @@ fn explained_tree(alloc: Global, filter: &Filter, tree: &Tree) -> Result<Finding
     }
 }
 
-/// The finding of a proof, which says its answer itself.
+// The finding of a proof, which says its answer itself.
 fn explained_by(proof: Proof) -> Finding
-    ensures { (filter : Way) (root : Root) → Justifies filter root proof (holds filter root) → result ≡ Finding.Explained (holds filter root) proof }
+    ensures { (filter : Way) (root : Root) → Justifies filter root proof (holds filter root) →
+        result ≡ Finding.Explained (holds filter root) proof }
 {
     let matches = proof.says_yes();
     Finding::Explained { matches, proof }

@@ -39,7 +39,7 @@ impl Finding {
     }
 }
 
-/// How a run ends that has written this line and no other.
+// How a run ends that has written this line and no other.
 fn status_behind(line: &OutLine) -> Status
     ensures status { result ≡ matches.status_behind line.now }
     ensures finished { (result ≡ statuses.Done) ⊎ (result ≡ statuses.Refused) }
@@ -50,7 +50,7 @@ fn status_behind(line: &OutLine) -> Status
     }
 }
 
-/// The line of an answer.
+// The line of an answer.
 fn answer(matches: bool) -> OutLine
     ensures { result ≡ findings.answer matches }
 {
@@ -84,7 +84,7 @@ fn wrong_node(alloc: Global, at: u32) -> Result<Bytes, AllocError>
     Ok(Bytes::from_vec(text.into_bytes()))
 }
 
-/// The answer's line, and those of the proof.
+// The answer's line, and those of the proof.
 fn explained(alloc: Global, matches: bool, proof: &Proof) -> Result<Bytes, AllocError>
     ensures text { IfOk result (λ bytes. bytes ≡ findings.explained matches proof.now) }
 {

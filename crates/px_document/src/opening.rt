@@ -40,10 +40,13 @@ pub fn read_opening<S: Source>(
     buffer: &mut [u8],
 ) -> Result<Opened, Halt>
     requires { 0 < length buffer.old }
-    ensures opened { IfOk result (λ opened. OpensDocument (S.left source.old) (S.left source.new) opened) }
+    ensures opened { IfOk result (λ opened. OpensDocument (S.left source.old) (S.left source.new)
+        opened) }
     ensures halted { IfErr result (λ halt. Halts halt (S.left source.old)) }
-    ensures failed { result ≡ Err (Halt.Document Stop.Source) → Rose (S.faults source.old) (S.faults source.new) }
-    ensures not_at_fault { result ≡ Err (Halt.Document Stop.Source) → GivesFineOpening (S.left source.old) (S.left source.new) }
+    ensures failed { result ≡ Err (Halt.Document Stop.Source) →
+        Rose (S.faults source.old) (S.faults source.new) }
+    ensures not_at_fault { result ≡ Err (Halt.Document Stop.Source) →
+        GivesFineOpening (S.left source.old) (S.left source.new) }
     ensures never_falls { S.faults source.old ≤ S.faults source.new }
     ensures room { length buffer.new ≡ length buffer.old }
 {
@@ -58,10 +61,11 @@ pub fn read_opening<S: Source>(
     unreachable!()
 }
 
-/// The proof, which is whole, in front of the document.
+// The proof, which is whole, in front of the document.
 fn in_front(proof: ProofReader, document: Document) -> Opened
     requires { (begun : List ℕ) × (bytes : List ℕ) × HasProof proof begun bytes }
-    ensures { (left now : Option (List ℕ)) → EndsProof left now proof document → OpensDocument left now result }
+    ensures { (left now : Option (List ℕ)) → EndsProof left now proof document →
+        OpensDocument left now result }
 {
     Opened {
         proof: proof.finish(),
@@ -69,8 +73,8 @@ fn in_front(proof: ProofReader, document: Document) -> Opened
     }
 }
 
-/// Takes the next piece of the source for the proof. Where the proof ends in it, the document
-/// begins with what is behind.
+// Takes the next piece of the source for the proof. Where the proof ends in it, the document
+// begins with what is behind.
 fn read_piece<S: Source>(
     alloc: Global,
     source: &mut S,
@@ -78,13 +82,19 @@ fn read_piece<S: Source>(
     proof: &mut ProofReader,
 ) -> Result<Option<Document>, Halt>
     requires { 0 < length buffer.old }
-    ensures more { result ≡ Ok None → (least : ℕ) (left : Option (List ℕ)) → Takes least left (S.left source.old) proof.old →
+    ensures more { result ≡ Ok None → (least : ℕ) (left : Option (List ℕ)) →
+        Takes least left (S.left source.old) proof.old →
         Takes (least + 1) left (S.left source.new) proof.new }
-    ensures ended { IfOk result (λ found. IfSome found (λ document. (least : ℕ) (left : Option (List ℕ)) → Takes least left (S.left source.old) proof.old →
+    ensures ended { IfOk result (λ found. IfSome found
+        (λ document. (least : ℕ) (left : Option (List ℕ)) →
+        Takes least left (S.left source.old) proof.old →
         EndsProof left (S.left source.new) proof.new document)) }
-    ensures halted { IfErr result (λ halt. (least : ℕ) (left : Option (List ℕ)) → Takes least left (S.left source.old) proof.old → Halts halt left) }
-    ensures failed { result ≡ Err (Halt.Document Stop.Source) → Rose (S.faults source.old) (S.faults source.new) }
-    ensures not_at_fault { (least : ℕ) (left : Option (List ℕ)) → Takes least left (S.left source.old) proof.old →
+    ensures halted { IfErr result (λ halt. (least : ℕ) (left : Option (List ℕ)) →
+        Takes least left (S.left source.old) proof.old → Halts halt left) }
+    ensures failed { result ≡ Err (Halt.Document Stop.Source) →
+        Rose (S.faults source.old) (S.faults source.new) }
+    ensures not_at_fault { (least : ℕ) (left : Option (List ℕ)) →
+        Takes least left (S.left source.old) proof.old →
         result ≡ Err (Halt.Document Stop.Source) → GivesFineOpening left (S.left source.new) }
     ensures never_falls { S.faults source.old ≤ S.faults source.new }
     ensures room { length buffer.new ≡ length buffer.old }
@@ -96,15 +106,17 @@ fn read_piece<S: Source>(
     }
 }
 
-/// Takes the next piece for the proof, and what is behind the proof for the document.
+// Takes the next piece for the proof, and what is behind the proof for the document.
 fn take_piece(
     alloc: Global,
     proof: &mut ProofReader,
     piece: &[u8],
 ) -> Result<Option<Document>, Halt>
     ensures more { result ≡ Ok None → TakesOn proof.old proof.new piece.now }
-    ensures ended { IfOk result (λ found. IfSome found (λ document. (begun : List ℕ) × proofs.EndsProof proof.old proof.new piece.now begun × HasCome document begun)) }
-    ensures halted { IfErr result (λ halt. (bytes : List ℕ) → HasTaken proof.old bytes → HaltsIn halt (bytes ++ piece.now)) }
+    ensures ended { IfOk result (λ found. IfSome found (λ document. (begun : List ℕ) ×
+        proofs.EndsProof proof.old proof.new piece.now begun × HasCome document begun)) }
+    ensures halted { IfErr result (λ halt. (bytes : List ℕ) → HasTaken proof.old bytes →
+        HaltsIn halt (bytes ++ piece.now)) }
     ensures not_read { result ≡ Err (Halt.Document Stop.Source) → ⊥ }
 {
     match proof.feed(piece) {
@@ -117,7 +129,7 @@ fn take_piece(
     }
 }
 
-/// The document that begins with these bytes.
+// The document that begins with these bytes.
 fn begin_document(alloc: Global, bytes: &[u8]) -> Result<Document, Halt>
     ensures come { IfOk result (λ document. HasCome document bytes.now) }
     ensures halted { IfErr result (λ halt. HaltsAt halt bytes.now) }

@@ -129,7 +129,7 @@ const VERIFIED: [Row; 12] = [
     },
 ];
 
-/// The text and the status of what was found.
+// The text and the status of what was found.
 fn written(alloc: Global, found: Result<Finding, Cut>) -> Result<(Bytes, Status), AllocError> {
     match found {
         Ok(finding) => Ok((text_of(alloc, &finding)?, finding.status())),

@@ -27,13 +27,16 @@ use std::alloc::Global;
 
 /// What the proof and the document that are left in the source show of the filter that a text
 /// writes. A filter that is refused is found before anything is read, and then a proof that is, the
-/// document's fault, and a wrong node of the proof. Where the source meets a fault, no line that was
-/// read whole is at fault.
+/// document's fault, and a wrong node of the proof. Where the source meets a fault, no line that
+/// was read whole is at fault.
 pub fn verification<S: Source>(alloc: Global, text: &[u8], source: &mut S) -> Result<Finding, Cut>
-    ensures found { IfOk result (λ finding. IsFound (Verifies text.now) (S.left source.old) (S.left source.new) finding) }
+    ensures found { IfOk result (λ finding. IsFound (Verifies text.now) (S.left source.old)
+        (S.left source.new) finding) }
     ensures failed { result ≡ Err Cut.Source → Rose (S.faults source.old) (S.faults source.new) }
-    ensures not_at_fault { result ≡ Err Cut.Source → CutAtProof text.now (S.left source.old) (S.left source.new) }
-    ensures unread { (fault : FilterFault) → HasFault text.now fault → S.left source.new ≡ S.left source.old }
+    ensures not_at_fault { result ≡ Err Cut.Source →
+        CutAtProof text.now (S.left source.old) (S.left source.new) }
+    ensures unread { (fault : FilterFault) → HasFault text.now fault →
+        S.left source.new ≡ S.left source.old }
     ensures never_falls { S.faults source.old ≤ S.faults source.new }
 {
     match parse(alloc, text) {
@@ -42,11 +45,14 @@ pub fn verification<S: Source>(alloc: Global, text: &[u8], source: &mut S) -> Re
     }
 }
 
-/// What the proof and the document show of the filter.
+// What the proof and the document show of the filter.
 fn verified<S: Source>(alloc: Global, filter: &Filter, source: &mut S) -> Result<Finding, Cut>
-    ensures found { IfOk result (λ finding. IsFoundUnder (λ bytes. VerifiesInput (way_of filter.now) bytes) (S.left source.old) (S.left source.new) finding) }
+    ensures found { IfOk result (λ finding. IsFoundUnder
+        (λ bytes. VerifiesInput (way_of filter.now) bytes) (S.left source.old) (S.left source.new)
+        finding) }
     ensures failed { result ≡ Err Cut.Source → Rose (S.faults source.old) (S.faults source.new) }
-    ensures not_at_fault { result ≡ Err Cut.Source → GivesFineOpening (S.left source.old) (S.left source.new) }
+    ensures not_at_fault { result ≡ Err Cut.Source →
+        GivesFineOpening (S.left source.old) (S.left source.new) }
     ensures never_falls { S.faults source.old ≤ S.faults source.new }
 {
     let Ok(mut storage) = buffer(alloc) else {
@@ -59,7 +65,7 @@ fn verified<S: Source>(alloc: Global, filter: &Filter, source: &mut S) -> Result
     }
 }
 
-/// What the proof shows with the rest of the document.
+// What the proof shows with the rest of the document.
 fn verified_behind<S: Source>(
     alloc: Global,
     filter: &Filter,
@@ -70,9 +76,11 @@ fn verified_behind<S: Source>(
     requires room { 0 < length buffer.old }
     requires come { (bytes : List ℕ) × HasCome opened.document bytes }
     ensures found { (left : Option (List ℕ)) → OpensDocument left (S.left source.old) opened →
-        IfOk result (λ finding. IsFoundUnder (λ bytes. VerifiesInput (way_of filter.now) bytes) left (S.left source.new) finding) }
+        IfOk result (λ finding. IsFoundUnder (λ bytes. VerifiesInput (way_of filter.now) bytes) left
+        (S.left source.new) finding) }
     ensures failed { result ≡ Err Cut.Source → Rose (S.faults source.old) (S.faults source.new) }
-    ensures not_at_fault { (left : Option (List ℕ)) → OpensDocument left (S.left source.old) opened →
+    ensures not_at_fault { (left : Option (List ℕ)) →
+        OpensDocument left (S.left source.old) opened →
         result ≡ Err Cut.Source → GivesFineOpening left (S.left source.new) }
     ensures never_falls { S.faults source.old ≤ S.faults source.new }
 {
@@ -83,7 +91,7 @@ fn verified_behind<S: Source>(
     }
 }
 
-/// What the proof shows of the tree.
+// What the proof shows of the tree.
 fn shown(filter: &Filter, tree: &Tree, proof: &Proof) -> Finding
     ensures { VerifiesVerdict (way_of filter.now) proof.now (IsTree (trees.tree tree.now)) result }
 {
@@ -94,7 +102,7 @@ fn shown(filter: &Filter, tree: &Tree, proof: &Proof) -> Finding
     }
 }
 
-/// What is found where a proof in front of a document was not read.
+// What is found where a proof in front of a document was not read.
 fn halted(halt: Halt) -> Result<Finding, Cut>
     ensures { result ≡ halt_of halt }
 {
