@@ -111,6 +111,10 @@ module _ {T : Type 0} where
     pub once : v.parts ≡ 66 → (h : T → ℕ) → total h v.taken ≡ total h taken
     pub alone : v.alone ≡ true → v.taken ≡ taken
 
+  -- what a taker has learnt at one moment of those that waited then
+  abbrev pub HasLearnt : (T → ℕ) → (List T → T → Type 0) → Known T → Type 0
+  HasLearnt giver Next v = (items : List T) × Learns giver Next v items
+
   -- the item was taken; who takes alone knows that it may stand behind those of its giver that were taken before
   abbrev pub Takes : (T → ℕ) → (List T → T → Type 0) → Known T → T → Known T → Type 0
   Takes giver Next v x w = (w ≡ with_taken v x) × (v.alone ≡ true → Next (of giver (giver x) v.taken) x)

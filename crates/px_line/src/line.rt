@@ -1,7 +1,7 @@
 //! The line, and the seats of those who give and take.
 ghost use Rattle.std.specs.Prelude.{◌≡◌, ◌<◌, ◌-◌, None, Some, IfOk, MatchResult, MatchOption};
 ghost use Rattle.px_line.specs.Lines.{first, made, new_giver, new_taker, cut, number_of, HasNumber};
-ghost use Rattle.px_line.specs.Lines.{with_given, with_taker, with_ended, Keeps, Takes, Waits, Learns, Held};
+ghost use Rattle.px_line.specs.Lines.{with_given, with_taker, with_ended, Keeps, Takes, Waits, Learns, HasLearnt, Held};
 
 use crate::queue;
 use crate::queue::{Queue, Token};
@@ -113,6 +113,15 @@ impl<T: Item> Line<T> {
             (λ item. Takes T.giver T.next seat.old.knows item seat.new.knows) }
     {
         queue::take(&self.queue, rt, &mut seat.token)
+    }
+
+    /// Learns what the seat can know of all that was given, at one moment of this call.
+    pub fn learn(&self, seat: &mut Seat<T>)
+        requires table { seat.old.table ≡ self.now.table }
+        ensures same { seat.new ≡ seat.old }
+        ensures learnt { HasLearnt T.giver T.next seat.old.knows }
+    {
+        queue::learn(&self.queue, &mut seat.token);
     }
 
     /// Takes in a taker, and all that it took.

@@ -2,7 +2,7 @@
 ghost use Rattle.std.specs.Prelude.{◌≡◌, ◌<◌, ◌≤◌, ◌-◌, None, Some, IfOk, MatchResult, MatchOption};
 ghost use Rattle.crossbeam_queue.specs.Passes.{view, IsPassOf, ruled_capacity};
 ghost use Rattle.px_line.specs.Lines.{first, made, new_giver, new_taker, cut, number_of, HasNumber};
-ghost use Rattle.px_line.specs.Lines.{with_given, with_taker, with_ended, Keeps, Takes, Waits, Learns, Held};
+ghost use Rattle.px_line.specs.Lines.{with_given, with_taker, with_ended, Keeps, Takes, Waits, Learns, HasLearnt, Held};
 
 use crate::rule::{Givers, Gives, InLine, Item, Known, Takers, Taking};
 use crossbeam_queue::{Pass, RuledArrayQueue};
@@ -74,6 +74,15 @@ pub(crate) fn take<T: Item, R: Wait>(queue: &Queue<T>, rt: &R, token: &mut Token
         (λ item. Takes T.giver T.next (view token.old) item (view token.new)) }
 {
     queue.pop_as::<Taking, R>(rt, token)
+}
+
+pub(crate) fn learn<T: Item>(queue: &Queue<T>, token: &mut Token<T>)
+    requires of { IsPassOf queue.now token.old }
+    ensures of { IsPassOf queue.now token.new }
+    ensures same { view token.new ≡ view token.old }
+    ensures learnt { HasLearnt T.giver T.next (view token.old) }
+{
+    queue.learn_as::<Taking>(token);
 }
 
 pub(crate) fn join<T: Item>(queue: &Queue<T>, token: &mut Token<T>, other: Token<T>)

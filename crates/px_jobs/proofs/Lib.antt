@@ -1,0 +1,4 @@
+pub mod Once
+pub mod Ordered
+pub mod Takers
+pub mod Under

@@ -1,0 +1,15 @@
+use Rattle.std.proofs.Common.{◌≡◌, ◌∙◌, ◌+◌, ◌≤◌, ap, subst, sym, arith, rules}
+use Rattle.std.specs.Prelude.{length}
+use Rattle.px_jobs.specs.Jobs.{AreNew}
+use Rattle.px_jobs.proofs.Takers.{giver_less, takers_snoc}
+use Rattle.px_jobs.proofs.jobs_line.Jobs.create.Goals as goal
+
+pub loop-preserved : goal.loop-preserved
+loop-preserved g c =
+    let i = c.loop.invariant in (
+      giver_less _ _ _ _ i.0 c.taker.ensures.giver,
+      grind (arith, rules),
+      grind (arith, rules),
+      i.3,
+      takers_snoc _ _ _ _ c.push_reserved.ensures.items i.4 c.taker.ensures.taker,
+    )
