@@ -17,10 +17,12 @@
 //! - Nothing is said of the order between feeders, nor that a letter comes soon.
 #![tactic(auto)]
 
+mod laws;
 mod letter;
 mod mailbox;
 #[cfg(test)]
 mod tests;
 
+pub use laws::{a_document_adds_its_letters, letters_are_numbered};
 pub use letter::Letter;
 pub use mailbox::{Exit, Mailbox, Slip};

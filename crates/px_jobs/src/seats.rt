@@ -66,5 +66,6 @@ impl<L> Model for Rest<L> {
     } };
 
     ghost invariant = { λ rest. (0 < rest.seat.knows.parts)
-        × (ended_of 0 rest.seat.knows.ended ≡ Some (or_nothing (ended_of 0 rest.seat.knows.ended))) };
+        × (ended_of 0 rest.seat.knows.ended ≡
+        Some (or_nothing (ended_of 0 rest.seat.knows.ended))) };
 }

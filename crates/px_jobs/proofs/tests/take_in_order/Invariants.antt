@@ -1,5 +1,5 @@
 use Rattle.std.proofs.Common.{◌≡◌}
 use Rattle.px_jobs.proofs.tests.take_in_order.Given as goal
 
-abbrev pub invariant-loop-right : goal.invariant-loop-right
-invariant-loop-right g l = l.taker.line ≡ l.jobs
+abbrev pub invariant-loop-before : goal.invariant-loop-before
+invariant-loop-before g l = l.taker.line ≡ l.jobs
