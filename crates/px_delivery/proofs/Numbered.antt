@@ -3,10 +3,10 @@ use Rattle.std.proofs.Common.{◌≡◌, ◌≢◌, ℕ, zero, suc, ◌+◌, ◌
 use Rattle.std.proofs.lemmas.Bool.Decides.{eqb_tells}
 use Rattle.std.specs.Prelude.{Option, Some, None, Result, Ok, Err, MatchResult, MatchOption}
 use Rattle.px_line.specs.declared.rule.Known.{Known}
-use Rattle.px_line.specs.Lines.{LineName, Seated, HasNumber, of, ended_of, Follow, Held, Waits, Learns, HasLearnt, Takes, with_given, with_taken}
-use Rattle.px_line.proofs.Lists.{of_append, of_more, of_other, none_is_not}
+use Rattle.px_line.specs.Lines.{LineName, Seated, HasNumber, of, Follow, Held, Waits, Learns, HasLearnt, Takes, with_given}
+use Rattle.px_line.proofs.Lists.{of_append, of_more, of_other}
 use Rattle.px_delivery.specs.declared.letter.Letter.{Letter}
-use Rattle.px_delivery.specs.Mail.{feeder_of, IsNext, of_feeder, AreNumbered, IsFront, InOrder, IsMailbox, AreAll, WasFull}
+use Rattle.px_delivery.specs.Mail.{feeder_of, IsNext, of_feeder, AreNumbered, InOrder, IsMailbox, AreAll, WasFull}
 
 -- of a list in which each letter is the next of its feeder, the letters of one feeder are numbered
 numbered_behind : (f : ℕ) (done rest : List Letter) → Follow feeder_of IsNext (done ++ rest) → AreNumbered (length (of_feeder f done)) (of_feeder f rest)
@@ -62,8 +62,3 @@ put_or_full m n f (Err back) v w x put long same mine h =
 pub mail_after : (line : LineName) (s w : Seated Letter) → w ≡ s → line.table ≡ s.table → 0 < s.knows.parts → s.knows.alone ≡ true → HasNumber s.knows.makes → s.knows.gives ≡ None → HasLearnt feeder_of IsNext s.knows → IsMailbox line w
 mail_after line s w same table parts alone makes gives learnt =
     subst (IsMailbox line) (sym same) (record { table = table; parts = parts; alone = alone; makes = makes; gives = gives; in_order = in_order s.knows alone learnt })
-
--- a mailbox from which no letter was taken yet
-pub new_mail : (got : List Letter) (ended : List (ℕ × List Letter)) → got ≡ [] → ended ≡ [] → InOrder got ended
-new_mail got ended no_letter no_slip =
-    subst (λ (p : List Letter × List (ℕ × List Letter)). InOrder p.0 p.1) (λ i. (sym no_letter i, sym no_slip i)) (record { numbered = λ f. tt; front = λ f all e. absurd (none_is_not all e) })
