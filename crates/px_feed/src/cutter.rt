@@ -50,8 +50,10 @@ impl Cutter {
     /// Takes a line with its line feed: the item that it gives or ends, if there is one.
     pub fn take_line(&mut self, line: &[u8]) -> Result<Option<Item>, Failure>
         requires { IsTrue (is_ended line.now) }
-        ensures counted { OnOk result (self.new.extent.bytes ≡ self.old.extent.bytes + length line.now) }
-        ensures cuts { (lines : List (List ℕ)) (given : List items.Item) → HasCut self.old lines given →
+        ensures counted { OnOk result (self.new.extent.bytes ≡
+            self.old.extent.bytes + length line.now) }
+        ensures cuts { (lines : List (List ℕ)) (given : List items.Item) →
+            HasCut self.old lines given →
             CutBy result self.new (lines ++ line.now ∷ []) given }
     {
         let Some(extent) = self.extent.with_line(line.len()) else {
@@ -84,8 +86,10 @@ impl Cutter {
 
     /// The fault of a line with which the feed has too many bytes.
     pub fn too_much(&self) -> Failure
-        ensures { (lines : List (List ℕ)) (given : List items.Item) (line : List ℕ) → HasCut self.now lines given →
-            items.most_bytes < items.bytes_in lines + length line → Fails (lines ++ line ∷ []) given result }
+        ensures { (lines : List (List ℕ)) (given : List items.Item) (line : List ℕ) →
+            HasCut self.now lines given →
+            items.most_bytes < items.bytes_in lines + length line →
+            Fails (lines ++ line ∷ []) given result }
     {
         Failure::at(self.extent.next_line(), FeedKind::FeedLong)
     }
@@ -93,8 +97,10 @@ impl Cutter {
     /// The fault of a line of so many bytes, which is too long.
     pub fn too_long(&self, count: u64) -> Failure
         requires { 1_048_578 < count }
-        ensures { (lines : List (List ℕ)) (given : List items.Item) (line : List ℕ) → HasCut self.now lines given →
-            length line ≡ count → items.bytes_in lines + count ≤ items.most_bytes → Fails (lines ++ line ∷ []) given result }
+        ensures { (lines : List (List ℕ)) (given : List items.Item) (line : List ℕ) →
+            HasCut self.now lines given →
+            length line ≡ count → items.bytes_in lines + count ≤ items.most_bytes →
+            Fails (lines ++ line ∷ []) given result }
     {
         let number = self.extent.next_line();
         if self.leaves_room(count) {
@@ -103,11 +109,12 @@ impl Cutter {
         Failure::at(number, FeedKind::Doc(DocKind::TooBig))
     }
 
-    /// Whether no document has begun, or one that is not too big with so many bytes more.
+    // Whether no document has begun, or one that is not too big with so many bytes more.
     fn leaves_room(&self, count: u64) -> bool
         requires { 0 < count }
         ensures outside { length (recorded self.now.document) ≡ 0 → IsTrue result }
-        ensures inside { 0 < length (recorded self.now.document) → IsTrue result → length (recorded self.now.document) + count ≤ 16_777_216 }
+        ensures inside { 0 < length (recorded self.now.document) → IsTrue result →
+            length (recorded self.now.document) + count ≤ 16_777_216 }
         ensures beyond { IsFalse result → 16_777_216 < length (recorded self.now.document) + count }
     {
         if self.document.is_empty() {
@@ -116,7 +123,7 @@ impl Cutter {
         count <= MAX_DOCUMENT.saturating_sub(self.document.size() as u64)
     }
 
-    /// Takes a line that does not make too many bytes.
+    // Takes a line that does not make too many bytes.
     fn judge_line(&mut self, line: &[u8]) -> Result<Option<Item>, Failure>
         requires { IsTrue (is_ended line.now) }
         ensures same { self.new.extent ≡ self.old.extent }
@@ -131,7 +138,7 @@ impl Cutter {
         }
     }
 
-    /// Does what a line outside documents does.
+    // Does what a line outside documents does.
     fn follow(&mut self, effect: Effect, line: &[u8]) -> Result<Option<Item>, Failure>
         requires { IsTrue (is_ended line.now) }
         ensures same { self.new.extent ≡ self.old.extent }
@@ -144,7 +151,7 @@ impl Cutter {
         }
     }
 
-    /// Goes on with a document by a line.
+    // Goes on with a document by a line.
     fn go_on(&mut self, line: &[u8]) -> Result<Option<Item>, Failure>
         requires { IsTrue (is_ended line.now) }
         ensures same { self.new.extent ≡ self.old.extent }
@@ -161,7 +168,7 @@ impl Cutter {
         Ok(Some(Item::Document { doc }))
     }
 
-    /// Does what the last line does, which stands outside documents.
+    // Does what the last line does, which stands outside documents.
     fn follow_last(&mut self, effect: Effect, line: &[u8]) -> Result<Option<Item>, Failure>
         requires no_feed { has_no_feed line.now ≡ true }
         ensures { EndsEffect self.old effect line.now result }
@@ -173,7 +180,7 @@ impl Cutter {
         }
     }
 
-    /// Ends a document by its last line, if there is one that no line feed ends.
+    // Ends a document by its last line, if there is one that no line feed ends.
     fn end_document(&mut self, line: &[u8]) -> Result<Option<Item>, Failure>
         requires no_feed { has_no_feed line.now ≡ true }
         ensures { EndsOn self.old line.now result }
@@ -186,7 +193,7 @@ impl Cutter {
     }
 }
 
-/// Whether a line is UTF-8.
+// Whether a line is UTF-8.
 fn is_text(line: &[u8]) -> bool
     ensures { IsTrue result → IsUtf8 line.now }
 {

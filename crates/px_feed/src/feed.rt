@@ -101,14 +101,18 @@ impl Items {
     /// The next item that the bytes read so far hold, or how the feed has ended; nothing where the
     /// source has to be read for it. It reads nothing.
     pub fn ready(&mut self) -> Option<Taken>
-        ensures takes { (left : Option (List ℕ)) (bytes : List ℕ) (given : List items.Item) → HasTaken self.old left bytes given →
+        ensures takes { (left : Option (List ℕ)) (bytes : List ℕ) (given : List items.Item) →
+            HasTaken self.old left bytes given →
             AnswersSoFar result self.new left bytes given }
-        ensures whole { result ≡ None → (left : Option (List ℕ)) (bytes : List ℕ) (given : List items.Item) → HasTaken self.old left bytes given →
+        ensures whole { result ≡ None → (left : Option (List ℕ)) (bytes : List ℕ)
+            (given : List items.Item) → HasTaken self.old left bytes given →
             items.AreWhole bytes given }
         ensures drained { result ≡ None → IsDrained self.new }
         ensures holds { result ≡ None → held self.new ≡ held self.old }
-        ensures stops { (ending : Ending) → result ≡ Some (taken_of ending) → HasEnded self.new ending }
-        ensures stays { (ending : Ending) → HasEnded self.old ending → result ≡ Some (taken_of ending) }
+        ensures stops { (ending : Ending) → result ≡ Some (taken_of ending) →
+            HasEnded self.new ending }
+        ensures stays { (ending : Ending) → HasEnded self.old ending →
+            result ≡ Some (taken_of ending) }
         ensures failed { result ≡ Some Taken.ReadFault → HasEnded self.old Ending.ReadFault }
     {
         if let Some(ending) = self.ending {
@@ -130,7 +134,8 @@ impl Items {
     /// The next item, for which the source is read on where it is needed. After every answer but
     /// an item that answer is given again, and nothing is read.
     pub fn next<S: Source>(&mut self, source: &mut S) -> Taken
-        ensures takes { (bytes : List ℕ) (given : List items.Item) → HasTaken self.old (S.left source.old) bytes given →
+        ensures takes { (bytes : List ℕ) (given : List items.Item) →
+            HasTaken self.old (S.left source.old) bytes given →
             TakesBy result self.new (S.left source.old) (S.left source.new) bytes given }
         ensures stops { (ending : Ending) → result ≡ taken_of ending → HasEnded self.new ending }
         ensures stays { (ending : Ending) → HasEnded self.old ending →
@@ -150,14 +155,16 @@ impl Items {
         unreachable!()
     }
 
-    /// Reads the next piece; at the end of the source the last line is taken.
+    // Reads the next piece; at the end of the source the last line is taken.
     fn refill<S: Source>(&mut self, source: &mut S) -> Option<Taken>
         ensures refills { Refills result self.old self.new (S.left source.old) (S.left source.new) }
         ensures more { result ≡ None → total self.old.joiner < held self.new }
         ensures going { result ≡ None → self.new.ending ≡ self.old.ending }
-        ensures stops { (ending : Ending) → result ≡ Some (taken_of ending) → HasEnded self.new ending }
+        ensures stops { (ending : Ending) → result ≡ Some (taken_of ending) →
+            HasEnded self.new ending }
         ensures never_falls { S.faults source.old ≤ S.faults source.new }
-        ensures failed { result ≡ Some Taken.ReadFault → Rose (S.faults source.old) (S.faults source.new) }
+        ensures failed { result ≡ Some Taken.ReadFault →
+            Rose (S.faults source.old) (S.faults source.new) }
     {
         self.at = 0;
         self.end = 0;
@@ -171,7 +178,7 @@ impl Items {
         }
     }
 
-    /// Takes the last line.
+    // Takes the last line.
     fn finish(&mut self) -> Taken
         ensures ends { FinishesBy result self.old self.new }
         ensures stops { (ending : Ending) → result ≡ taken_of ending → HasEnded self.new ending }
@@ -187,7 +194,7 @@ impl Items {
         }
     }
 
-    /// Ends the feed: from now on this is its answer.
+    // Ends the feed: from now on this is its answer.
     fn stop(&mut self, ending: Ending) -> Taken
         ensures answer { result ≡ taken_of ending }
         ensures stops { (other : Ending) → result ≡ taken_of other → HasEnded self.new other }
@@ -197,7 +204,7 @@ impl Items {
     }
 }
 
-/// Reads the next bytes into the front of the piece.
+// Reads the next bytes into the front of the piece.
 fn read_into<S: Source>(source: &mut S, piece: &mut Vec<u8>) -> ReadAnswer
     requires { length piece.old.items ≡ 65_536 }
     ensures next { GivesNext result piece.new.items (S.left source.old) (S.left source.new) }

@@ -34,7 +34,7 @@ struct Draws {
 }
 
 impl Draws {
-    /// The next draw, below the bound.
+    // The next draw, below the bound.
     fn draw(&mut self, bound: u32) -> u32
         requires { 0 < bound }
         ensures given { result ≡ draw 1 bound self.old.state }
@@ -45,7 +45,7 @@ impl Draws {
         self.state / 65_536 % bound
     }
 
-    /// The next draw, below the bound, as a digit.
+    // The next draw, below the bound, as a digit.
     fn digit(&mut self, bound: u32) -> u8
         requires positive { 0 < bound }
         requires one_digit { bound ≤ 10 }
@@ -56,7 +56,7 @@ impl Draws {
     }
 }
 
-/// The state behind a draw.
+// The state behind a draw.
 #[tactic(auto, unfolding(crate::specs::Generator::drawn))]
 fn state_behind(state: u32) -> u32
     ensures { result ≡ drawn state }
@@ -64,7 +64,7 @@ fn state_behind(state: u32) -> u32
     ((u64::from(state) * 1_103_515_245 + 12_345) % 2_147_483_648) as u32
 }
 
-/// Writes so many adds.
+// Writes so many adds.
 fn write_adds(filters: u32, draws: &mut Draws, out: &mut Vec<u8>) -> Result<(), AllocError>
     ensures text { OnOk result (out.new.items ≡ out.old.items ++ adds filters draws.old.state) }
     ensures state { OnOk result (draws.new.state ≡ after_adds filters draws.old.state) }
@@ -75,7 +75,7 @@ fn write_adds(filters: u32, draws: &mut Draws, out: &mut Vec<u8>) -> Result<(), 
     Ok(())
 }
 
-/// Writes the next add.
+// Writes the next add.
 fn write_add(draws: &mut Draws, out: &mut Vec<u8>) -> Result<(), AllocError>
     ensures text { OnOk result (out.new.items ≡ out.old.items ++ add draws.old.state) }
     ensures state { OnOk result (draws.new.state ≡ after_add draws.old.state) }
@@ -90,9 +90,10 @@ fn write_add(draws: &mut Draws, out: &mut Vec<u8>) -> Result<(), AllocError>
     }
 }
 
-/// Writes the rest of an add for an element with an attribute.
+// Writes the rest of an add for an element with an attribute.
 fn write_attribute_add(element: u8, draws: &mut Draws, out: &mut Vec<u8>) -> Result<(), AllocError>
-    ensures text { OnOk result (out.new.items ≡ out.old.items ++ add_of 0 (element ∷ []) draws.old.state) }
+    ensures text { OnOk result (out.new.items ≡ out.old.items ++
+        add_of 0 (element ∷ []) draws.old.state) }
     ensures state { OnOk result (draws.new.state ≡ after (further 0) draws.old.state) }
 {
     let value = draws.digit(10);
@@ -102,9 +103,10 @@ fn write_attribute_add(element: u8, draws: &mut Draws, out: &mut Vec<u8>) -> Res
     out.extend_from_slice(&line)
 }
 
-/// Writes the rest of an add for an element with a child.
+// Writes the rest of an add for an element with a child.
 fn write_child_add(element: u8, draws: &mut Draws, out: &mut Vec<u8>) -> Result<(), AllocError>
-    ensures text { OnOk result (out.new.items ≡ out.old.items ++ add_of 1 (element ∷ []) draws.old.state) }
+    ensures text { OnOk result (out.new.items ≡ out.old.items ++
+        add_of 1 (element ∷ []) draws.old.state) }
     ensures state { OnOk result (draws.new.state ≡ after (further 1) draws.old.state) }
 {
     let child = draws.digit(8);
@@ -114,9 +116,10 @@ fn write_child_add(element: u8, draws: &mut Draws, out: &mut Vec<u8>) -> Result<
     out.extend_from_slice(&line)
 }
 
-/// Writes the rest of an add for an element without a child.
+// Writes the rest of an add for an element without a child.
 fn write_absence_add(element: u8, draws: &mut Draws, out: &mut Vec<u8>) -> Result<(), AllocError>
-    ensures text { OnOk result (out.new.items ≡ out.old.items ++ add_of 2 (element ∷ []) draws.old.state) }
+    ensures text { OnOk result (out.new.items ≡ out.old.items ++
+        add_of 2 (element ∷ []) draws.old.state) }
     ensures state { OnOk result (draws.new.state ≡ after (further 2) draws.old.state) }
 {
     let child = draws.digit(8);
@@ -127,9 +130,10 @@ fn write_absence_add(element: u8, draws: &mut Draws, out: &mut Vec<u8>) -> Resul
     out.extend_from_slice(&line)
 }
 
-/// Writes the rest of an add for an element with a text or an element below it.
+// Writes the rest of an add for an element with a text or an element below it.
 fn write_choice_add(element: u8, draws: &mut Draws, out: &mut Vec<u8>) -> Result<(), AllocError>
-    ensures text { OnOk result (out.new.items ≡ out.old.items ++ add_of 3 (element ∷ []) draws.old.state) }
+    ensures text { OnOk result (out.new.items ≡ out.old.items ++
+        add_of 3 (element ∷ []) draws.old.state) }
     ensures state { OnOk result (draws.new.state ≡ after (further 3) draws.old.state) }
 {
     let value = draws.digit(10);
@@ -141,14 +145,15 @@ fn write_choice_add(element: u8, draws: &mut Draws, out: &mut Vec<u8>) -> Result
     out.extend_from_slice(&line)
 }
 
-/// Writes so many documents, the first with the number 1, and the drops before them.
+// Writes so many documents, the first with the number 1, and the drops before them.
 fn write_documents(
     filters: u32,
     count: u32,
     draws: &mut Draws,
     out: &mut Vec<u8>,
 ) -> Result<(), AllocError>
-    ensures { OnOk result (out.new.items ≡ out.old.items ++ documents filters count 1 draws.old.state) }
+    ensures { OnOk result (out.new.items ≡ out.old.items ++
+        documents filters count 1 draws.old.state) }
 {
     for before in 0..count {
         write_drop(filters, before + 1, out)?;
@@ -157,7 +162,7 @@ fn write_documents(
     Ok(())
 }
 
-/// Writes the drop before the document of this number, if there is one.
+// Writes the drop before the document of this number, if there is one.
 fn write_drop(filters: u32, number: u32, out: &mut Vec<u8>) -> Result<(), AllocError>
     ensures { OnOk result (out.new.items ≡ out.old.items ++ drop_before filters number) }
 {
@@ -172,7 +177,7 @@ fn write_drop(filters: u32, number: u32, out: &mut Vec<u8>) -> Result<(), AllocE
     Ok(())
 }
 
-/// Writes the next document.
+// Writes the next document.
 fn write_document(draws: &mut Draws, out: &mut Vec<u8>) -> Result<(), AllocError>
     ensures text { OnOk result (out.new.items ≡ out.old.items ++ document draws.old.state) }
     ensures state { OnOk result (draws.new.state ≡ after 16 draws.old.state) }
@@ -182,7 +187,7 @@ fn write_document(draws: &mut Draws, out: &mut Vec<u8>) -> Result<(), AllocError
     out.extend_from_slice(b")r\n")
 }
 
-/// Writes the groups of a document.
+// Writes the groups of a document.
 fn write_groups(draws: &mut Draws, out: &mut Vec<u8>) -> Result<(), AllocError>
     ensures text { OnOk result (out.new.items ≡ out.old.items ++ groups 4 draws.old.state) }
     ensures state { OnOk result (draws.new.state ≡ after 16 draws.old.state) }
@@ -193,7 +198,7 @@ fn write_groups(draws: &mut Draws, out: &mut Vec<u8>) -> Result<(), AllocError>
     Ok(())
 }
 
-/// Writes the next group of a document.
+// Writes the next group of a document.
 fn write_group(draws: &mut Draws, out: &mut Vec<u8>) -> Result<(), AllocError>
     ensures text { OnOk result (out.new.items ≡ out.old.items ++ group draws.old.state) }
     ensures state { OnOk result (draws.new.state ≡ after 4 draws.old.state) }

@@ -22,7 +22,7 @@ pub fn id_of(text: &[u8]) -> Option<u32>
     None
 }
 
-/// Whether the text is one to nine digits.
+// Whether the text is one to nine digits.
 fn names_id(text: &[u8]) -> bool
     ensures same { result ≡ tests_id text.now }
     ensures short { IsTrue result → length text.now ≤ 9 }
@@ -40,7 +40,7 @@ fn are_digits(text: &[u8]) -> bool
     text.iter().all(|byte| is_digit(*byte))
 }
 
-/// The number that at most nine digits write.
+// The number that at most nine digits write.
 fn value_of(digits: &[u8]) -> u32
     requires digits { IsTrue (list_all tests_digit digits.now) }
     requires short { length digits.now ≤ 9 }

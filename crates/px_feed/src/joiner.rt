@@ -55,7 +55,8 @@ impl Joiner {
 
     /// Takes a piece up to the first item that a line of it gives or ends, or all of it.
     pub fn take(&mut self, piece: &[u8]) -> Brought
-        ensures counted { result ≡ Brought.Nothing → total self.new ≡ total self.old + length piece.now }
+        ensures counted { result ≡ Brought.Nothing →
+            total self.new ≡ total self.old + length piece.now }
         ensures within { UsesAtMost result (length piece.now) }
         ensures brings { JoinsPiece self.old piece.now result self.new }
     {
@@ -78,8 +79,8 @@ impl Joiner {
         }
     }
 
-    /// Takes the part of a piece that ends a line: the item that the line gives or ends, if there
-    /// is one.
+    // Takes the part of a piece that ends a line: the item that the line gives or ends, if there
+    // is one.
     fn end_line(&mut self, part: &[u8]) -> Result<Option<Item>, Failure>
         requires { IsTrue (is_ended part.now) }
         ensures counted { OnOk result (total self.new ≡ total self.old + length part.now) }
@@ -103,7 +104,7 @@ impl Joiner {
         answer
     }
 
-    /// Takes the part of a piece that begins a line, or goes on with it.
+    // Takes the part of a piece that begins a line, or goes on with it.
     fn begin_line(&mut self, part: &[u8]) -> Result<(), Failure>
         requires { IsTrue (has_no_feed part.now) }
         ensures counted { OnOk result (total self.new ≡ total self.old + length part.now) }
@@ -132,9 +133,10 @@ impl Joiner {
     }
 }
 
-/// Appends the part of a line to what is kept of it.
+// Appends the part of a line to what is kept of it.
 fn keep(kept: &mut Vec<u8>, part: &[u8]) -> Result<(), AllocError>
-    ensures kept { OnOk result (kept.new.items ≡ kept.old.items ++ take (1_048_578 - length kept.old.items) part.now) }
+    ensures kept { OnOk result (kept.new.items ≡ kept.old.items ++
+        take (1_048_578 - length kept.old.items) part.now) }
     ensures same { OnErr result (kept.new.items ≡ kept.old.items) }
 {
     let room = MAX_KEPT.saturating_sub(kept.len());

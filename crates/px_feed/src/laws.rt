@@ -16,8 +16,10 @@ pub fn every_feed_has_items()
 /// [`crate::Items::next`] is exact: the items that were taken before it are all that the feed has,
 /// and the feed stops in no other way.
 pub fn a_feed_has_one_list_of_items()
-    ensures items { (bytes : List ℕ) (items others : List Item) (stop end : Stop) → HasItems bytes items stop → HasItems bytes others end → items ≡ others }
-    ensures stop { (bytes : List ℕ) (items others : List Item) (stop end : Stop) → HasItems bytes items stop → HasItems bytes others end → stop ≡ end }
+    ensures items { (bytes : List ℕ) (items others : List Item) (stop end : Stop) →
+        HasItems bytes items stop → HasItems bytes others end → items ≡ others }
+    ensures stop { (bytes : List ℕ) (items others : List Item) (stop end : Stop) →
+        HasItems bytes items stop → HasItems bytes others end → stop ≡ end }
 {}
 
 /// Something is written for every feed, and its run has a status.
@@ -29,7 +31,11 @@ pub fn every_feed_has_an_output()
 /// function of the bytes of a feed, of a filter's text and a document's bytes, and of the text of a
 /// filter that is shown.
 pub fn an_output_is_one()
-    ensures feed { (bytes text other : List ℕ) (status end : Status) → Out bytes text status → Out bytes other end → (text ≡ other) × (status ≡ end) }
-    ensures matched { (filter bytes text other : List ℕ) (status end : Status) → OutMatch filter bytes text status → OutMatch filter bytes other end → (text ≡ other) × (status ≡ end) }
-    ensures shown { (filter text other : List ℕ) (status end : Status) → OutShow filter text status → OutShow filter other end → (text ≡ other) × (status ≡ end) }
+    ensures feed { (bytes text other : List ℕ) (status end : Status) → Out bytes text status →
+        Out bytes other end → (text ≡ other) × (status ≡ end) }
+    ensures matched { (filter bytes text other : List ℕ) (status end : Status) →
+        OutMatch filter bytes text status → OutMatch filter bytes other end → (text ≡ other) ×
+        (status ≡ end) }
+    ensures shown { (filter text other : List ℕ) (status end : Status) →
+        OutShow filter text status → OutShow filter other end → (text ≡ other) × (status ≡ end) }
 {}

@@ -38,7 +38,7 @@ pub fn judge(alloc: Global, line: &[u8]) -> Result<Effect, LineFault>
     effect_of(alloc, content)
 }
 
-/// What a line without its end does.
+// What a line without its end does.
 fn effect_of(alloc: Global, content: &[u8]) -> Result<Effect, LineFault>
     ensures { Does result (outside content.now) }
 {
@@ -57,7 +57,7 @@ fn effect_of(alloc: Global, content: &[u8]) -> Result<Effect, LineFault>
     }
 }
 
-/// A filter to add.
+// A filter to add.
 fn add(alloc: Global, text: &[u8]) -> Result<Effect, LineFault>
     ensures { Does result (Brings (Adding text.now)) }
 {
@@ -65,7 +65,7 @@ fn add(alloc: Global, text: &[u8]) -> Result<Effect, LineFault>
     Ok(Effect::Gives(Item::Add { text }))
 }
 
-/// An id to drop.
+// An id to drop.
 fn remove(alloc: Global, text: &[u8]) -> Result<Effect, LineFault>
     ensures { Does result (Brings (Removing text.now)) }
 {
@@ -73,7 +73,7 @@ fn remove(alloc: Global, text: &[u8]) -> Result<Effect, LineFault>
     Ok(Effect::Gives(Item::Remove { text }))
 }
 
-/// An id and the filter that takes its place.
+// An id and the filter that takes its place.
 fn replace(alloc: Global, text: &[u8]) -> Result<Effect, LineFault>
     ensures { Does result (outside (94 ∷ text.now)) }
 {
@@ -83,7 +83,7 @@ fn replace(alloc: Global, text: &[u8]) -> Result<Effect, LineFault>
     Ok(Effect::Gives(Item::Replace { id, text }))
 }
 
-/// The first line of a document, if it has a name.
+// The first line of a document, if it has a name.
 fn open(name: &[u8]) -> Result<Effect, LineFault>
     ensures { Does result (outside (40 ∷ name.now)) }
 {
@@ -93,7 +93,7 @@ fn open(name: &[u8]) -> Result<Effect, LineFault>
     Err(LineFault::Kind(DocKind::NotHere))
 }
 
-/// A line of text, where only white space may stand.
+// A line of text, where only white space may stand.
 fn say(alloc: Global, text: &[u8]) -> Result<Effect, LineFault>
     ensures { Does result (outside (45 ∷ text.now)) }
 {
@@ -103,8 +103,8 @@ fn say(alloc: Global, text: &[u8]) -> Result<Effect, LineFault>
     Err(LineFault::Kind(DocKind::NotHere))
 }
 
-/// A line that begins with no byte that has a meaning of its own: one that begins with a letter
-/// is passed by.
+// A line that begins with no byte that has a meaning of its own: one that begins with a letter
+// is passed by.
 fn pass(first: u8) -> Result<Effect, LineFault>
     ensures { Does result (passed_by first) }
 {
@@ -114,7 +114,7 @@ fn pass(first: u8) -> Result<Effect, LineFault>
     Err(LineFault::Kind(DocKind::NotHere))
 }
 
-/// Whether a text, with its escapes read, is white space or empty.
+// Whether a text, with its escapes read, is white space or empty.
 fn is_blank(alloc: Global, text: &[u8]) -> Result<bool, AllocError>
     ensures { IfOk result (λ blank. blank ≡ all_white (unescaped text.now)) }
 {
