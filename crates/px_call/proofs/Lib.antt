@@ -6,3 +6,7 @@ pub mod Again
 pub mod Ordered
 pub mod Runs
 pub mod Outside
+pub mod Readings
+pub mod Pushed
+pub mod Fillings
+pub mod Memories

@@ -5,3 +5,6 @@ pub mod Memory
 pub mod Calls
 pub mod Laws
 pub mod Rows
+pub mod Values
+pub mod Making
+pub mod Holding

@@ -25,13 +25,26 @@
 //! ([`only_words_of_the_run_are_written`]). They speak of the bank that the call was inside, and
 //! hold of the pass before it entered and after it left ([`counts_hold_outside`]).
 //!
+//! **The memo.** A [`BankMemo`] makes the steps of a runner over the bank that its seat is inside:
+//! it looks for a step there, computes it by the program where the bank lacks it, interns the answer
+//! and puts the step. A number of the bank stands for a set; a set that the bank has no room for is
+//! held by itself. What it tells of steps and sets is the relation above, since the seat that an
+//! [`Entry`] names; and on every answer its seat is of the same table, and inside.
+//!
 //! Not said: anything of words that a step wrote which failed for want of memory.
 #![tactic(auto)]
 
+mod bank_memo;
+mod booking;
+mod entry;
 mod law;
 mod laws;
+mod solving;
+mod stepping;
 mod tally;
 
+pub use bank_memo::BankMemo;
+pub use entry::Entry;
 pub use law::ProgramLaw;
 pub use laws::{
     a_full_call_has_own_steps, a_second_call_computes_nothing, counts_add_up, counts_hold_outside,
