@@ -27,10 +27,10 @@ use px_text::{Op, Set};
 use std::alloc::{AllocError, Global};
 use std::marker::{Model, PhantomData};
 
-/// A memo over the bank that its seat is inside, for a call that began with the seat that `C` names.
-/// It looks for a step in the bank, computes it by the program where the bank lacks it, and puts it
-/// there. A set or a step that the bank has no room for is the call's own. Contracts see its
-/// program, the seat when the call began and the seat now, and what was counted since.
+/// A memo over the bank that its seat is inside, for a call that began with the seat that `C`
+/// names. It looks for a step in the bank, computes it by the program where the bank lacks it, and
+/// puts it there. A set or a step that the bank has no room for is the call's own. Contracts see
+/// its program, the seat when the call began and the seat now, and what was counted since.
 pub struct BankMemo<'s, L: ProgramLaw, C: Entry<L::Entry>> {
     alloc: Global,
     shared: &'s Shared<L>,
@@ -48,7 +48,8 @@ impl<'s, L: ProgramLaw, C: Entry<L::Entry>> Model for BankMemo<'s, L, C> {
 
     ghost view = { λ m. memory m.compiled.now C.began m.seat m.tally };
 
-    ghost invariant = { λ m. IsMemory L.right L.automata_of m.shared.now (memory m.compiled.now C.began m.seat m.tally) };
+    ghost invariant = { λ m. IsMemory L.right L.automata_of m.shared.now
+        (memory m.compiled.now C.began m.seat m.tally) };
 }
 
 // A value for a set in the bank, and the counts behind it.
@@ -64,7 +65,9 @@ fn keep<L: ProgramLaw>(
     ensures table { seat.new.table ≡ seat.old.table }
     ensures works { Works L.right shared.now.shape seat.old.view seat.new.view }
     ensures wrote { WroteNodes L.right shared.now.shape set.now seat.old.view seat.new.view }
-    ensures kept { IfOk result (λ r. IsKept L.right shared.now.shape (bank_in seat.old.view.stay.place) (version_in seat.old.view.stay.place) seat.new.view set.now r.0 tally r.1) }
+    ensures kept { IfOk result (λ r. IsKept L.right shared.now.shape
+        (bank_in seat.old.view.stay.place) (version_in seat.old.view.stay.place) seat.new.view
+        set.now r.0 tally r.1) }
 {
     match intern(shared, seat, set) {
         Intern::Number(number) => Ok((Held::Numbered(number), tally)),
@@ -121,7 +124,8 @@ impl<'s, L: ProgramLaw, C: Entry<L::Entry>> BankMemo<'s, L, C> {
 
     // A value for a set.
     fn keep(&mut self, set: &Set) -> Result<Held, AllocError>
-        ensures ok { IfOk result (λ held. Advances program_of (StandsFor L.right) (TellsOf L.right) self.old self.new [] (set.now ∷ [])) }
+        ensures ok { IfOk result (λ held. Advances program_of (StandsFor L.right) (TellsOf L.right)
+            self.old self.new [] (set.now ∷ [])) }
         ensures stands { IfOk result (λ held. StandsFor L.right self.new held set.now) }
         ensures err { OnErr result (Keeps program_of (StandsFor L.right) self.old self.new) }
     {
@@ -138,10 +142,16 @@ impl<'s, L: ProgramLaw, C: Entry<L::Entry>> BankMemo<'s, L, C> {
         b: &Held,
         numbers: (u32, u32),
     ) -> Result<Held, AllocError>
-        requires operands { (x : Operand) × (y : Operand) × AreOperands (program_of self.old).states (StandsFor L.right self.old) op a.now b.now x y }
+        requires operands { (x : Operand) × (y : Operand) ×
+            AreOperands (program_of self.old).states (StandsFor L.right self.old) op a.now b.now
+            x y }
         requires numbers { (number a.now ≡ Some numbers.0) × (number b.now ≡ Some numbers.1) }
-        ensures ok { IfOk result (λ held. (x y : Operand) → AreOperands (program_of self.old).states (StandsFor L.right self.old) op a.now b.now x y →
-            Makes program_of (StandsFor L.right) (TellsOf L.right) self.old self.new held (step (program_of self.old).states op x y ∷ []) (answer_of (program_of self.old).states op x y)) }
+        ensures ok { IfOk result (λ held. (x y : Operand) →
+            AreOperands (program_of self.old).states (StandsFor L.right self.old) op a.now b.now
+            x y →
+            Makes program_of (StandsFor L.right) (TellsOf L.right) self.old self.new held
+            (step (program_of self.old).states op x y ∷ [])
+            (answer_of (program_of self.old).states op x y)) }
         ensures err { OnErr result (Keeps program_of (StandsFor L.right) self.old self.new) }
     {
         self.compiled.program().sound();
@@ -162,10 +172,16 @@ impl<'s, L: ProgramLaw, C: Entry<L::Entry>> BankMemo<'s, L, C> {
 
     // A step with an operand of the call's own.
     fn own_step(&mut self, op: Op, a: &Held, b: &Held) -> Result<Held, AllocError>
-        requires operands { (x : Operand) × (y : Operand) × AreOperands (program_of self.old).states (StandsFor L.right self.old) op a.now b.now x y }
+        requires operands { (x : Operand) × (y : Operand) ×
+            AreOperands (program_of self.old).states (StandsFor L.right self.old) op a.now b.now
+            x y }
         requires own { (number a.now ≡ None) ⊎ (number b.now ≡ None) }
-        ensures ok { IfOk result (λ held. (x y : Operand) → AreOperands (program_of self.old).states (StandsFor L.right self.old) op a.now b.now x y →
-            Makes program_of (StandsFor L.right) (TellsOf L.right) self.old self.new held (step (program_of self.old).states op x y ∷ []) (answer_of (program_of self.old).states op x y)) }
+        ensures ok { IfOk result (λ held. (x y : Operand) →
+            AreOperands (program_of self.old).states (StandsFor L.right self.old) op a.now b.now
+            x y →
+            Makes program_of (StandsFor L.right) (TellsOf L.right) self.old self.new held
+            (step (program_of self.old).states op x y ∷ [])
+            (answer_of (program_of self.old).states op x y)) }
         ensures err { OnErr result (Keeps program_of (StandsFor L.right) self.old self.new) }
     {
         let held = make_beside(

@@ -26,10 +26,10 @@
 //! hold of the pass before it entered and after it left ([`counts_hold_outside`]).
 //!
 //! **The memo.** A [`BankMemo`] makes the steps of a runner over the bank that its seat is inside:
-//! it looks for a step there, computes it by the program where the bank lacks it, interns the answer
-//! and puts the step. A number of the bank stands for a set; a set that the bank has no room for is
-//! held by itself. What it tells of steps and sets is the relation above, since the seat that an
-//! [`Entry`] names; and on every answer its seat is of the same table, and inside.
+//! it looks for a step there, computes it by the program where the bank lacks it, interns the
+//! answer and puts the step. A number of the bank stands for a set; a set that the bank has no room
+//! for is held by itself. What it tells of steps and sets is the relation above, since the seat
+//! that an [`Entry`] names; and on every answer its seat is of the same table, and inside.
 //!
 //! Not said: anything of words that a step wrote which failed for want of memory.
 #![tactic(auto)]

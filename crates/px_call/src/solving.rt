@@ -48,10 +48,12 @@ pub(crate) fn read<L: Law>(
     requires table { seat.old.table ≡ shared.now }
     requires inside { is_inside seat.old.view.stay.place ≡ true }
     requires sound { IsSound L.right shared.now.shape seat.old.view }
-    requires operand { (x : Operand) × IsOperand (IsValue L.right shared.now.shape seat.old.view) held.now x }
+    requires operand { (x : Operand) ×
+        IsOperand (IsValue L.right shared.now.shape seat.old.view) held.now x }
     ensures table { seat.new.table ≡ seat.old.table }
     ensures looked { OnlyLooked L.right shared.now.shape seat.old.view seat.new.view }
-    ensures set { IfOk result (λ set. (x : List ℕ) → IsValue L.right shared.now.shape seat.old.view held.now x → set ≡ x) }
+    ensures set { IfOk result (λ set. (x : List ℕ) →
+        IsValue L.right shared.now.shape seat.old.view held.now x → set ≡ x) }
 {
     match held {
         Held::Plain(_) => Ok(Set::empty(alloc)),
@@ -70,7 +72,8 @@ fn answer(
     b: &Held,
 ) -> Result<Set, AllocError>
     requires operands { (x : Operand) × (y : Operand) × AreRead op first.now second.now b.now x y }
-    ensures answer { IfOk result (λ set. (x y : Operand) → AreRead op first.now second.now b.now x y → set ≡ answer_of compiled.now.states op x y) }
+    ensures answer { IfOk result (λ set. (x y : Operand) →
+        AreRead op first.now second.now b.now x y → set ≡ answer_of compiled.now.states op x y) }
 {
     match op {
         Op::TextClass => value_text(alloc, compiled.program(), plain(b)),
@@ -95,10 +98,14 @@ pub(crate) fn solve<L: Law>(
     requires table { seat.old.table ≡ shared.now }
     requires inside { is_inside seat.old.view.stay.place ≡ true }
     requires sound { IsSound L.right shared.now.shape seat.old.view }
-    requires operands { (x : Operand) × (y : Operand) × AreOperands compiled.now.states (IsValue L.right shared.now.shape seat.old.view) op a.now b.now x y }
+    requires operands { (x : Operand) × (y : Operand) ×
+        AreOperands compiled.now.states (IsValue L.right shared.now.shape seat.old.view) op a.now
+        b.now x y }
     ensures table { seat.new.table ≡ seat.old.table }
     ensures looked { OnlyLooked L.right shared.now.shape seat.old.view seat.new.view }
-    ensures answer { IfOk result (λ set. (x y : Operand) → AreOperands compiled.now.states (IsValue L.right shared.now.shape seat.old.view) op a.now b.now x y → set ≡ answer_of compiled.now.states op x y) }
+    ensures answer { IfOk result (λ set. (x y : Operand) →
+        AreOperands compiled.now.states (IsValue L.right shared.now.shape seat.old.view) op a.now
+        b.now x y → set ≡ answer_of compiled.now.states op x y) }
 {
     let first = read(alloc, shared, seat, a)?;
     let second = read(alloc, shared, seat, b)?;

@@ -46,7 +46,10 @@ fn put_step<L: ProgramLaw>(
     requires table { seat.old.table ≡ shared.now }
     requires inside { is_inside seat.old.view.stay.place ≡ true }
     requires fields { (a < 1048576) × (b < 1048576) × (number < 1048576) }
-    requires step { (s : Step) × Asked L.right shared.now.shape (bank_in seat.old.view.stay.place) (version_in seat.old.view.stay.place) seat.old.view op a b s × Tells L.right shared.now.shape (bank_in seat.old.view.stay.place) (version_in seat.old.view.stay.place) seat.old.view true number (set_of s.answer) }
+    requires step { (s : Step) × Asked L.right shared.now.shape (bank_in seat.old.view.stay.place)
+        (version_in seat.old.view.stay.place) seat.old.view op a b s ×
+        Tells L.right shared.now.shape (bank_in seat.old.view.stay.place)
+        (version_in seat.old.view.stay.place) seat.old.view true number (set_of s.answer) }
     ensures table { seat.new.table ≡ seat.old.table }
     ensures works { Works L.right shared.now.shape seat.old.view seat.new.view }
     ensures puts { Puts L.right shared.now.shape op a b number seat.old.view seat.new.view result }
@@ -74,10 +77,13 @@ fn fill<L: ProgramLaw>(
     requires program { IsProgramAt L.automata_of seat.old.view compiled.now }
     requires numbers { (number a.now ≡ Some numbers.0) × (number b.now ≡ Some numbers.1) }
     requires small { (numbers.0 < 1048576) × (numbers.1 < 1048576) }
-    requires operands { (x : Operand) × (y : Operand) × AreOperands compiled.now.states (IsValue L.right shared.now.shape seat.old.view) op a.now b.now x y }
+    requires operands { (x : Operand) × (y : Operand) ×
+        AreOperands compiled.now.states (IsValue L.right shared.now.shape seat.old.view) op a.now
+        b.now x y }
     ensures table { seat.new.table ≡ seat.old.table }
     ensures works { Works L.right shared.now.shape seat.old.view seat.new.view }
-    ensures fills { IfOk result (λ o. Fills L.right shared.now.shape compiled.now.states op a.now b.now numbers.0 numbers.1 seat.old.view seat.new.view o) }
+    ensures fills { IfOk result (λ o. Fills L.right shared.now.shape compiled.now.states op a.now
+        b.now numbers.0 numbers.1 seat.old.view seat.new.view o) }
 {
     let set = solve(alloc, shared, seat, compiled, op, a, b)?;
     match intern(shared, seat, &set) {
@@ -102,10 +108,13 @@ pub(crate) fn make_step<L: ProgramLaw>(
     requires program { IsProgramAt L.automata_of seat.old.view compiled.now }
     requires numbers { (number a.now ≡ Some numbers.0) × (number b.now ≡ Some numbers.1) }
     requires small { (numbers.0 < 1048576) × (numbers.1 < 1048576) }
-    requires operands { (x : Operand) × (y : Operand) × AreOperands compiled.now.states (IsValue L.right shared.now.shape seat.old.view) op a.now b.now x y }
+    requires operands { (x : Operand) × (y : Operand) ×
+        AreOperands compiled.now.states (IsValue L.right shared.now.shape seat.old.view) op a.now
+        b.now x y }
     ensures table { seat.new.table ≡ seat.old.table }
     ensures works { Works L.right shared.now.shape seat.old.view seat.new.view }
-    ensures makes { IfOk result (λ o. Makes L.right shared.now.shape compiled.now.states op a.now b.now numbers.0 numbers.1 seat.old.view seat.new.view o) }
+    ensures makes { IfOk result (λ o. Makes L.right shared.now.shape compiled.now.states op a.now
+        b.now numbers.0 numbers.1 seat.old.view seat.new.view o) }
 {
     match find(shared, seat, op, numbers.0, numbers.1) {
         Find::Found(number) => Ok(Outcome::Found(number)),
@@ -126,10 +135,13 @@ pub(crate) fn make_beside<L: ProgramLaw>(
     requires table { seat.old.table ≡ shared.now }
     requires inside { is_inside seat.old.view.stay.place ≡ true }
     requires sound { IsSound L.right shared.now.shape seat.old.view }
-    requires operands { (x : Operand) × (y : Operand) × AreOperands compiled.now.states (IsValue L.right shared.now.shape seat.old.view) op a.now b.now x y }
+    requires operands { (x : Operand) × (y : Operand) ×
+        AreOperands compiled.now.states (IsValue L.right shared.now.shape seat.old.view) op a.now
+        b.now x y }
     ensures table { seat.new.table ≡ seat.old.table }
     ensures works { Works L.right shared.now.shape seat.old.view seat.new.view }
-    ensures makes { IfOk result (λ held. MakesBeside L.right shared.now.shape compiled.now.states op a.now b.now seat.old.view seat.new.view held) }
+    ensures makes { IfOk result (λ held. MakesBeside L.right shared.now.shape compiled.now.states op
+        a.now b.now seat.old.view seat.new.view held) }
 {
     let set = solve(alloc, shared, seat, compiled, op, a, b)?;
     match intern(shared, seat, &set) {
