@@ -144,10 +144,6 @@ module _ {E : Type 0} (right : List E → Op → Operand → Operand → List �
 pub program_grew : {E : Type 0} (automata_of : List E → Automata) (v w : View E) → Grew v w → (automata : Automata) → IsProgramAt automata_of v automata → IsProgramAt automata_of w automata
 program_grew automata_of v w g automata is = is ∙ (λ i. automata_of (take (version_in (sym g.stay i).place) (sym g.past i).seen))
 
--- The classes and labels of a program have 20 bits
-class_small : (n m : ℕ) → n ≤ m → m ≤ 500_000 → n < 1048576
-class_small n m h l = omega arith
-
 number_small : (c n m : ℕ) → c ≤ 2 * n + 1 → n ≤ m → m ≤ 500_000 → c < 1048576
 number_small c n m e h l = omega arith
 
