@@ -1,5 +1,5 @@
 -- The sets that a call holds over a document, and the words that it writes.
-use Rattle.std.proofs.Common.{◌≡◌, ◌⊎◌, ℕ, zero, suc, List, [], ◌∷◌, ◌++◌, map, refl, sym, ap, ◌∙◌, inl, inr, ⊎_elim}
+use Rattle.std.proofs.Common.{◌≡◌, ◌⊎◌, ℕ, zero, suc, List, [], ◌∷◌, ◌++◌, map, refl, sym, ap, ◌∙◌, subst, inl, inr, ⊎_elim}
 use mathlib.Core.Option.{some, some-injective}
 use lib.ListN.{get_elem?}
 use Rattle.px_text.specs.declared.op.Op.{Op}
@@ -20,10 +20,11 @@ use Rattle.px_rule.proofs.Sounds.{wrote_none, wrote_on}
 use Rattle.px_runner.specs.Events.{ground, after_events, events_steps}
 use Rattle.px_runner.proofs.Fed.{steps-append, tree-steps}
 use Rattle.px_call.specs.declared.tally.Tally.{Tally}
-use Rattle.px_call.specs.Counted.{step_of, Among, SetOf, of_first, of_second, of_answer, of_held, WordOf, of_set, of_step}
+use Rattle.px_call.specs.Counted.{step_of, Among, SetOf, of_first, of_second, of_answer, of_held, WordOf, of_set, of_step, Counts}
 use Rattle.px_call.specs.Calls.{held_in, sets_held, steps_brought, CountsAt}
-use Rattle.px_call.specs.Laws.{HeldFirst}
+use Rattle.px_call.specs.Laws.{HeldFirst, KnowTheSame}
 use Rattle.px_call.proofs.Again.{no_cons}
+use Rattle.px_call.proofs.Outside.{moved}
 use Rattle.px_call.proofs.Ordered.{among_is, from_marks, from_held}
 
 -- events give nothing but empty sets to hold
@@ -98,3 +99,9 @@ module _ {E : Type 0} (right : List E → Op → Operand → Operand → List �
             (λ s j. brought_in_run automata given rest root e s (from_marks right z k n began v t (steps_brought automata given) (sets_held automata given) h s j))
             (λ x j. held_is automata given x (from_held right z k n began v t (steps_brought automata given) (sets_held automata given) h x j)) f.word i.2,
       )) (λ f i. i) h.counted.wrote (wrote_none Q v v refl)
+
+  -- over a whole document the counts are those of its run, outside the bank too
+  pub counts_of_run : (before began after : View E) (t : Tally) → KnowTheSame before began → KnowTheSame v after → CountsAt right z k n automata began v t (events_of root)
+      → Counts right z k n before after t (run_of automata root) (sets_held automata (events_of root))
+  counts_of_run before began after t e d h = moved right z k n before began v after t (run_of automata root) (sets_held automata (events_of root)) e d
+      (subst (λ steps. Counts right z k n began v t steps (sets_held automata (events_of root))) (tree-steps automata root) h)

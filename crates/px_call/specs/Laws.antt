@@ -53,6 +53,11 @@ module _ {E : Type 0} (right : List E → Op → Operand → Operand → List �
   CountsMove = (z : Shape) (k n : ℕ) (before began v after : View E) (tally : Tally) (steps : List Step) (sets : List (List ℕ)) → KnowTheSame before began → KnowTheSame v after
       → Counts right z k n began v tally steps sets → Counts right z k n before after tally steps sets
 
+  -- and over a whole document they are those of the steps of its run
+  abbrev pub CountsOfRun : Type 0
+  CountsOfRun = (z : Shape) (k n : ℕ) (automata : Automata) (before began v after : View E) (tally : Tally) (root : Root) → KnowTheSame before began → KnowTheSame v after
+      → CountsAt right z k n automata began v tally (events_of root) → Counts right z k n before after tally (run_of automata root) (sets_held automata (events_of root))
+
   -- each word that a call wrote is, for every document that its events begin, the node word of a rest of a set of the run, or the word of a step of it
   abbrev pub WritesOfRun : Type 0
   WritesOfRun = (z : Shape) (k n : ℕ) (automata : Automata) (began v : View E) (tally : Tally) (given rest : List Event) (root : Root) → events_of root ≡ given ++ rest

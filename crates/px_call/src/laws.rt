@@ -1,5 +1,5 @@
 //! Laws of the counts, over the definitions alone.
-ghost use Rattle.px_call.specs.Laws.{AddUp, SettledKeeps, FullOwns, SecondCall, CountsMove, HeldInRun, WritesOfRun};
+ghost use Rattle.px_call.specs.Laws.{AddUp, SettledKeeps, FullOwns, SecondCall, CountsMove, CountsOfRun, HeldInRun, WritesOfRun};
 
 use px_rule::Law;
 
@@ -25,9 +25,11 @@ pub fn a_second_call_computes_nothing<L: Law>()
 {}
 
 /// The counts between two views inside a bank are those between the views before entering it and
-/// after leaving it, since the seat knows the same of the history and of places there.
+/// after leaving it, since the seat knows the same of the history and of places there. Over the
+/// events of a document they are those of its run.
 pub fn counts_hold_outside<L: Law>()
     ensures moved { CountsMove L.right }
+    ensures run { CountsOfRun L.right }
 {}
 
 /// A call writes the words of steps of the run and the node words of their sets, whatever the
