@@ -11,3 +11,4 @@ pub mod Machines
 pub mod Meeting
 pub mod Beginning
 pub mod Gathered
+pub mod Again

@@ -6,3 +6,4 @@ pub mod Calls
 pub mod Banking
 pub mod Beginning
 pub mod AllOfThem
+pub mod Replying

@@ -16,7 +16,7 @@ use px_banks::{Claim, claim, publish, zero};
 use px_rule::{Law, Seat, Shared};
 use px_text::Words;
 
-/// The first bank that stands at the version.
+// The first bank that stands at the version.
 fn standing_at(stands: &[u32], version: u32) -> Option<u32>
     requires few { length stands.now ≤ 16 }
     ensures { IsStanding stands.now version result }
@@ -29,7 +29,8 @@ fn standing_at(stands: &[u32], version: u32) -> Option<u32>
     None
 }
 
-/// The bank that is to be tried next: of those of which no word was found the one that stands at the lowest version, and of two at one version the one with the lower number.
+// The bank that is to be tried next: of those of which no word was found the one that stands at the
+// lowest version, and of two at one version the one with the lower number.
 fn oldest(stands: &[u32], words: &[u64]) -> Option<u32>
     requires few { (length stands.now ≤ 16) × (length words.now ≡ length stands.now) }
     ensures { IsNext stands.now words.now (length stands.now) result }
@@ -41,7 +42,7 @@ fn oldest(stands: &[u32], words: &[u64]) -> Option<u32>
     next
 }
 
-/// The bank that is to be tried next among one more.
+// The bank that is to be tried next among one more.
 fn earlier(stands: &[u32], words: &[u64], next: Option<u32>, bank: u32) -> Option<u32>
     requires within { (bank < length stands.now) × (length words.now ≡ length stands.now) }
     requires next { IsNext stands.now words.now bank next }
@@ -56,7 +57,7 @@ fn earlier(stands: &[u32], words: &[u64], next: Option<u32>, bank: u32) -> Optio
     }
 }
 
-/// Renews a bank that no call is inside, or keeps the word that was found.
+// Renews a bank that no call is inside, or keeps the word that was found.
 fn try_bank<L: Law>(
     shared: &Shared<L>,
     desk: &mut Seat<L>,
@@ -67,11 +68,14 @@ fn try_bank<L: Law>(
     requires table { desk.old.table ≡ shared.now }
     requires bank { bank < shared.now.shape.banks }
     requires desk { desk.old.view.past.kind ≡ Desk }
-    requires stand { (a : Stand) × (get_elem? desk.old.view.stay.stands bank ≡ some a) × (a.version ≡ old) × (a.building ≡ 0) }
-    requires none_built { (j : ℕ) (c : Stand) → get_elem? desk.old.view.stay.stands j ≡ some c → c.building ≡ 0 }
+    requires stand { (a : Stand) × (get_elem? desk.old.view.stay.stands bank ≡ some a) ×
+        (a.version ≡ old) × (a.building ≡ 0) }
+    requires none_built { (j : ℕ) (c : Stand) → get_elem? desk.old.view.stay.stands j ≡ some c →
+        c.building ≡ 0 }
     requires version { (old < version) × (version ≤ length desk.old.view.past.seen) }
     ensures table { desk.new.table ≡ desk.old.table }
-    ensures answer { TryGives (size_of shared.now.shape) bank version desk.old.view desk.new.view result }
+    ensures answer { TryGives (size_of shared.now.shape) bank version desk.old.view desk.new.view
+        result }
 {
     match claim(shared, desk, bank, old, version) {
         Claim::Claimed => {
@@ -83,7 +87,7 @@ fn try_bank<L: Law>(
     }
 }
 
-/// Tries the banks in their order until one is free. The words found are kept.
+// Tries the banks in their order until one is free. The words found are kept.
 fn try_banks<L: Law>(
     shared: &Shared<L>,
     desk: &mut Seat<L>,
@@ -102,7 +106,9 @@ fn try_banks<L: Law>(
     ensures past { desk.new.view.past ≡ desk.old.view.past }
     ensures keeps { desk.new.view.stay.keeps ≡ desk.old.view.stay.keeps }
     ensures words { length words.new.items ≡ shared.now.shape.banks }
-    ensures answer { ClaimsGive stands.now version desk.old.view.past.asker desk.old.view.past.asker_loads (size_of shared.now.shape) desk.old.view.stay desk.new.view.stay words.new.items result }
+    ensures answer { ClaimsGive stands.now version desk.old.view.past.asker
+        desk.old.view.past.asker_loads (size_of shared.now.shape) desk.old.view.stay
+        desk.new.view.stay words.new.items result }
 {
     while let Some(bank) = oldest(stands, words.as_slice()) {
         match try_bank(shared, desk, bank, stands[bank as usize], version) {
@@ -113,7 +119,8 @@ fn try_banks<L: Law>(
     None
 }
 
-/// The first bank that stands at the newest version, or else one that is renewed, or the words of all.
+// The first bank that stands at the newest version, or else one that is renewed, or the words of
+// all.
 fn choose_home<L: Law>(
     shared: &Shared<L>,
     desk: &mut Seat<L>,
@@ -132,7 +139,8 @@ fn choose_home<L: Law>(
     ensures keeps { desk.new.view.stay.keeps ≡ desk.old.view.stay.keeps }
     ensures stands { AreStands shared.now.shape.banks stands.new.items desk.new.view.stay.stands }
     ensures reached { All (λ n. n ≤ version) stands.new.items }
-    ensures home { GivesHome stands.old.items version desk.old.view.past.asker desk.old.view.past.asker_loads shared.now.shape.banks desk.new.view.stay result }
+    ensures home { GivesHome stands.old.items version desk.old.view.past.asker
+        desk.old.view.past.asker_loads shared.now.shape.banks desk.new.view.stay result }
 {
     let _shape = shared.shape();
     if let Some(bank) = standing_at(stands.as_slice(), version) {
@@ -147,7 +155,9 @@ fn choose_home<L: Law>(
     }
 }
 
-/// Gives the pass a bank that stands at the newest version, or renews one for it, or keeps the words of all; and the pass catches up with the desk. Claims that fail name the pass, and a load of this call.
+/// Gives the pass a bank that stands at the newest version, or renews one for it, or keeps the
+/// words of all; and the pass catches up with the desk. Claims that fail name the pass, and a load
+/// of this call.
 pub(crate) fn give_home<L: Law>(
     shared: &Shared<L>,
     desk: &mut Seat<L>,
@@ -167,8 +177,11 @@ pub(crate) fn give_home<L: Law>(
     ensures desk { SameDesk desk.old.view desk.new.view }
     ensures stands { AreStands shared.now.shape.banks stands.new.items desk.new.view.stay.stands }
     ensures reached { All (λ n. n ≤ version) stands.new.items }
-    ensures home { GivesHome stands.old.items version (number_of pass.old.view.past.kind) (pass.old.view.past.loads + 1) shared.now.shape.banks desk.new.view.stay result }
-    ensures pass { (found : ℕ) × Settled L.who L.legal desk.old.view.past.seen desk.old.view.past.made desk.new.view.stay (record pass.old.view { past = loaded pass.old.view.past found }) pass.new.view }
+    ensures home { GivesHome stands.old.items version (number_of pass.old.view.past.kind)
+        (pass.old.view.past.loads + 1) shared.now.shape.banks desk.new.view.stay result }
+    ensures pass { (found : ℕ) × Settled L.who L.legal desk.old.view.past.seen
+        desk.old.view.past.made desk.new.view.stay
+        (record pass.old.view { past = loaded pass.old.view.past found }) pass.new.view }
 {
     shared.load(pass);
     let note = shared.note(pass);

@@ -26,7 +26,7 @@ const MOST_CHANGES: u32 = 1_048_575;
 /// The most that the sizes of the live filters may be together.
 const MOST_SIZE: u64 = 500_000;
 
-/// Whether a filter is too large beside others of this size.
+// Whether a filter is too large beside others of this size.
 fn is_too_large(others: u32, filter: &Filter) -> bool
     ensures large { IsTrue result → 500_000 < others + histories.size (whole.filter filter.now) }
     ensures small { IsFalse result → others + histories.size (whole.filter filter.now) ≤ 500_000 }
@@ -43,24 +43,27 @@ impl<N: HubName> Desk<N> {
         self.journal.version()
     }
 
-    /// The sizes of the live filters together.
+    // The sizes of the live filters together.
     fn live_size(&self) -> u32
         ensures { result ≡ size_behind self.now.past.seen }
     {
         self.journal.live_size()
     }
 
-    /// The sizes of the live filters but that of a live id.
+    // The sizes of the live filters but that of a live id.
     fn size_beside(&self, id: u32) -> u32
         requires legal { IsLegal (history self.now.past.seen) }
         requires live { histories.IsLive id (live_behind self.now.past.seen) }
         ensures others { result ≡ size_beside id self.now.past.seen }
-        ensures replaced { (new : Filtering) → histories.live_size (histories.after 0 (live_behind self.now.past.seen) (histories.Replaces 0 id (whole.filter new))) ≡ result + histories.size (whole.filter new) }
+        ensures replaced { (new : Filtering) →
+            histories.live_size (histories.after 0 (live_behind self.now.past.seen)
+            (histories.Replaces 0 id (whole.filter new))) ≡
+            result + histories.size (whole.filter new) }
     {
         self.journal.live_size() - self.journal.size_of(id)
     }
 
-    /// Whether no version is left.
+    // Whether no version is left.
     fn is_full(&self) -> bool
         ensures full { IsTrue result → length self.now.past.seen ≡ 1_048_575 }
         ensures room { IsFalse result → length self.now.past.seen < 1_048_575 }
@@ -124,7 +127,8 @@ impl<N: HubName> Desk<N> {
         Ok(version)
     }
 
-    /// Puts another filter in the place of a live one, unless it is too large beside the others or no version is left.
+    /// Puts another filter in the place of a live one, unless it is too large beside the others or
+    /// no version is left.
     pub(crate) fn replace(
         &mut self,
         alloc: Global,
@@ -156,7 +160,8 @@ impl<N: HubName> Desk<N> {
         Ok(version)
     }
 
-    /// Accepts a change of the pass, which then has seen it as the last. Its only failure is want of memory, and then nothing has changed.
+    // Accepts a change of the pass, which then has seen it as the last. Its only failure is want of
+    // memory, and then nothing has changed.
     fn accept(
         &mut self,
         alloc: Global,
@@ -168,7 +173,8 @@ impl<N: HubName> Desk<N> {
         requires who { who_of change ≡ pass.old.number }
         requires legal { IsLegal (history (self.old.past.seen ++ change ∷ [])) }
         ensures accepted { IfOk result (λ version. Accepted change version pass.old pass.new) }
-        ensures desk { OnOk result ((self.new.past.seen ≡ self.old.past.seen ++ change ∷ []) × (seen_of pass.new ≡ self.new.past.seen)) }
+        ensures desk { OnOk result ((self.new.past.seen ≡ self.old.past.seen ++ change ∷ []) ×
+            (seen_of pass.new ≡ self.new.past.seen)) }
         ensures unchanged { OnErr result ((pass.new ≡ pass.old) × (self.new ≡ self.old)) }
     {
         let live = self.journal.snapshot_after(alloc, &change)?;
@@ -181,7 +187,8 @@ impl<N: HubName> Desk<N> {
         Ok(version)
     }
 
-    /// The pass sees all that the desk has seen. Its only failure is want of memory, and then nothing has changed.
+    // The pass sees all that the desk has seen. Its only failure is want of memory, and then
+    // nothing has changed.
     fn catch_up(
         &mut self,
         alloc: Global,

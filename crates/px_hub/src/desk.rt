@@ -7,7 +7,8 @@ use px_workload::Journal;
 use std::marker::{Model, PhantomData};
 use std::sync::Arc;
 
-/// The journal, the desk's seat, the versions of the banks, and the newest program that was built. Contracts see what the desk knows.
+/// The journal, the desk's seat, the versions of the banks, and the newest program that was built.
+/// Contracts see what the desk knows.
 #[derive(Drop)]
 pub(crate) struct Desk<N: HubName> {
     pub(crate) journal: Journal,
@@ -29,5 +30,6 @@ impl<N: HubName> Model for Desk<N> {
 
     ghost view = { λ d. d.seat.view };
 
-    ghost invariant = { λ d. IsDesk N.table N.passes d.seat d.journal.changes d.stands.items (arc_value d.built) };
+    ghost invariant = { λ d. IsDesk N.table N.passes d.seat d.journal.changes d.stands.items
+        (arc_value d.built) };
 }

@@ -34,7 +34,8 @@ pub(crate) fn take_in<L: Law>(shared: &Shared<L>, pass: &mut Seat<L>, note: Seat
     shared.join(pass, note);
 }
 
-/// A pass whose note the desk has taken in sees all that the desk has seen, and loads the version word; the desk hears what it found.
+/// A pass whose note the desk has taken in sees all that the desk has seen, and loads the version
+/// word; the desk hears what it found.
 pub(crate) fn settle<L: Law>(shared: &Shared<L>, desk: &mut Seat<L>, pass: &mut Seat<L>)
     requires tables { (desk.old.table ≡ shared.now) × (pass.old.table ≡ shared.now) }
     requires desk { (desk.old.view.past.kind ≡ Desk) × (desk.old.view.stay.keeps ≡ true) }
@@ -43,7 +44,8 @@ pub(crate) fn settle<L: Law>(shared: &Shared<L>, desk: &mut Seat<L>, pass: &mut 
     ensures tables { (desk.new.table ≡ shared.now) × (pass.new.table ≡ shared.now) }
     ensures desk { SameDesk desk.old.view desk.new.view }
     ensures banks { desk.new.view.stay ≡ desk.old.view.stay }
-    ensures pass { Settled L.who L.legal desk.old.view.past.seen desk.old.view.past.made desk.old.view.stay pass.old.view pass.new.view }
+    ensures pass { Settled L.who L.legal desk.old.view.past.seen desk.old.view.past.made
+        desk.old.view.stay pass.old.view pass.new.view }
 {
     shared.load(desk);
     let shown = shared.note(desk);
@@ -61,7 +63,8 @@ pub(crate) fn catch_up<L: Law>(shared: &Shared<L>, desk: &mut Seat<L>, pass: &mu
     ensures tables { (desk.new.table ≡ shared.now) × (pass.new.table ≡ shared.now) }
     ensures desk { SameDesk desk.old.view desk.new.view }
     ensures banks { desk.new.view.stay ≡ desk.old.view.stay }
-    ensures pass { Settled L.who L.legal desk.old.view.past.seen desk.old.view.past.made desk.old.view.stay pass.old.view pass.new.view }
+    ensures pass { Settled L.who L.legal desk.old.view.past.seen desk.old.view.past.made
+        desk.old.view.stay pass.old.view pass.new.view }
 {
     let note = shared.note(pass);
     hear(shared, desk, note);
@@ -76,7 +79,8 @@ pub(crate) fn accept<L: Law>(
     entry: &L::Entry,
 )
     requires tables { (desk.old.table ≡ shared.now) × (pass.old.table ≡ shared.now) }
-    requires desk { (desk.old.view.past.kind ≡ Desk) × (desk.old.view.stay.keeps ≡ true) × (desk.old.view.past.permit ≡ None) }
+    requires desk { (desk.old.view.past.kind ≡ Desk) × (desk.old.view.stay.keeps ≡ true) ×
+        (desk.old.view.past.permit ≡ None) }
     requires pass { pass.old.view.past.kind ≡ Pass (L.who entry.now) }
     requires own { named L.who (L.who entry.now) pass.old.view.past.seen ≡ pass.old.view.past.mine }
     requires legal { L.legal (desk.old.view.past.seen ++ entry.now ∷ []) }
@@ -84,7 +88,9 @@ pub(crate) fn accept<L: Law>(
     ensures desk { SameDesk (with_entry entry.now desk.old.view) desk.new.view }
     ensures banks { desk.new.view.stay ≡ desk.old.view.stay }
     ensures before { Begins pass.old.view.past.seen desk.old.view.past.seen }
-    ensures pass { Settled L.who L.legal (desk.old.view.past.seen ++ entry.now ∷ []) desk.old.view.past.made desk.old.view.stay (whole_asking (Some entry.now) pass.old.view) pass.new.view }
+    ensures pass { Settled L.who L.legal (desk.old.view.past.seen ++
+        entry.now ∷ []) desk.old.view.past.made desk.old.view.stay
+        (whole_asking (Some entry.now) pass.old.view) pass.new.view }
 {
     let permit = shared.ask(pass, entry);
     hear(shared, desk, permit);

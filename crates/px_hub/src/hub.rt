@@ -59,7 +59,8 @@ impl<N: HubName> Hub<N> {
             .unsubscribe(self.alloc, &self.shared, pass, id)
     }
 
-    /// Puts another filter in the place of a live one, whoever added it, and answers the version that this makes. The id stays.
+    /// Puts another filter in the place of a live one, whoever added it, and answers the version
+    /// that this makes. The id stays.
     pub fn replace(
         &self,
         rt: &impl Wait,
@@ -81,16 +82,19 @@ impl<N: HubName> Hub<N> {
 
     /// Gives the pass the newest version, its program and its bank, and answers the version.
     pub fn refresh(&self, rt: &impl Wait, pass: &mut Pass<N>) -> Result<u32, AllocError>
-        ensures refreshed { IfOk result (λ version. Refreshed N.table.shape.banks version pass.old pass.new) }
+        ensures refreshed { IfOk result
+            (λ version. Refreshed N.table.shape.banks version pass.old pass.new) }
         ensures memory { OnErr result (pass.new ≡ pass.old) }
     {
         self.desk.lock(rt).refresh(self.alloc, &self.shared, pass)
     }
 
-    /// Refreshes all passes of the hub, which then have seen the same, and answers the version. Where memory is refused, some may be refreshed.
+    /// Refreshes all passes of the hub, which then have seen the same, and answers the version.
+    /// Where memory is refused, some may be refreshed.
     pub fn refresh_all(&self, rt: &impl Wait, passes: &mut [Pass<N>]) -> Result<u32, AllocError>
         requires every { HoldsEvery N.passes passes.old }
-        ensures refreshed { IfOk result (λ version. AllRefreshed N.table.shape.banks version passes.old passes.new) }
+        ensures refreshed { IfOk result
+            (λ version. AllRefreshed N.table.shape.banks version passes.old passes.new) }
         ensures memory { OnErr result (SomeRefreshed N.table.shape.banks passes.old passes.new) }
     {
         self.desk
@@ -113,7 +117,8 @@ impl<N: HubName> Hub<N> {
         })
     }
 
-    /// Gives the pass the longer of the two histories. It takes no memory, and leaves the program as it is.
+    /// Gives the pass the longer of the two histories. It takes no memory, and leaves the program
+    /// as it is.
     pub fn meet(&self, pass: &mut Pass<N>, note: Note<N>)
         ensures { Met note pass.old pass.new }
     {

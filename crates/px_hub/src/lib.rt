@@ -16,33 +16,41 @@
 //!   Hub::note   Hub::meet         a Note is what a pass has seen, for another pass: no lock
 //! ```
 //!
-//! **A change** ([`Hub::subscribe`], [`Hub::unsubscribe`], [`Hub::replace`]) waits for the lock. The
-//! desk takes in a note of the pass with the permit for that change, and accepts it, which is one
-//! addition to the version word; a note of the desk then tells the pass of all changes before it.
-//! So the pass has then seen what it had, changes of others, and its own as the last. A refused
+//! **A change** ([`Hub::subscribe`], [`Hub::unsubscribe`], [`Hub::replace`]) waits for the lock.
+//! The desk takes in a note of the pass with the permit for that change, and accepts it, which is
+//! one addition to the version word; a note of the desk then tells the pass of all changes before
+//! it. So the pass has then seen what it had, changes of others, and its own as the last. A refused
 //! change is told against what the pass has then seen, and where memory is refused nothing has
 //! changed.
 //!
 //! **A refresh** ([`Hub::refresh`], [`Hub::refresh_all`]) gives a pass the newest version, its
-//! program, and a bank: the first that stands at that version, or else the one at the lowest version
-//! that no call is inside, cleared and made to stand. Where calls are inside all banks, the pass
-//! keeps the word that each claim found. Passes at one version share one program.
+//! program, and a bank: the first that stands at that version, or else the one at the lowest
+//! version that no call is inside, cleared and made to stand. Where calls are inside all banks, the
+//! pass keeps the word that each claim found. Passes at one version share one program.
 //!
 //! **A note** ([`Hub::note`], [`Hub::meet`]) copies no history: what was seen stands in proofs
 //! alone, and the live filters are shared. It takes no lock.
 //!
 //! **Where it is said.** `specs/Calls.antt` has a relation for each call, between the pass before
-//! and after it; `specs/Passes.antt` what holds of every pass, note and desk. [`Pass::version`] tells
-//! that each entry that a pass has seen names a pass of the hub, and that those that name it are
-//! the changes that it asked for.
+//! and after it; `specs/Passes.antt` what holds of every pass, note and desk. [`Pass::version`]
+//! tells that each entry that a pass has seen names a pass of the hub, and that those that name it
+//! are the changes that it asked for.
 //!
-//! **Which hub.** A pass is of the hub that its type parameter names ([`HubName`]): the caller makes
-//! [`Parts`], hands them to a function of its own that is generic in a name, with std's `Brand` for
-//! it, and that calls [`Hub::create`].
+//! **Which hub.** A pass is of the hub that its type parameter names ([`HubName`]): the caller
+//! makes [`Parts`], hands them to a function of its own that is generic in a name, with std's
+//! `Brand` for it, and that calls [`Hub::create`].
+//!
+//! **What a call that filters is to answer.** A [`Reply`] has the ids that match at the version of
+//! the pass, and counts by whom the steps were made; [`Why`] names the first cause that holds for
+//! steps that are the call's own. `specs/Replying.antt` ties a reply, or the fault of the bytes, to
+//! the pass before and after (`Filters`): which bank it entered and what word it found there, what
+//! its view shows of each step, and that only words of the document's run were written. A document
+//! whose steps all stood in the bank is found again ([`a_settled_document_is_found_again`]). No
+//! call states it yet.
 //!
 //! Not said: which of two changes at the same time is first, that a claim succeeds, or anything of
-//! waiting. To come: that the types may cross threads (`Send`, `Sync`), which no proof shows yet, and
-//! the calls that filter a document.
+//! waiting. To come: that the types may cross threads (`Send`, `Sync`), which no proof shows yet,
+//! and the calls that filter a document.
 #![tactic(auto)]
 
 mod at_version;
@@ -55,11 +63,13 @@ mod faults;
 mod home;
 mod hub;
 mod law;
+mod laws;
 mod machine;
 mod name;
 mod note;
 mod parts;
 mod pass;
+mod reply;
 #[cfg(test)]
 mod tests;
 mod together;
@@ -69,7 +79,9 @@ pub use faults::{ReplaceFault, SubscribeFault, UnsubscribeFault};
 pub use home::Home;
 pub use hub::Hub;
 pub use law::Workload;
+pub use laws::a_settled_document_is_found_again;
 pub use name::HubName;
 pub use note::Note;
 pub use parts::Parts;
 pub use pass::Pass;
+pub use reply::{FilterCallFault, Reply, Why};

@@ -20,7 +20,8 @@ use std::sync::Arc;
 
 /// The machine of the journal's version. Its only failure is want of memory.
 pub(crate) fn build(alloc: Global, journal: &Journal) -> Result<Arc<AtVersion>, AllocError>
-    ensures { IfOk result (λ c. ((arc_value c).version ≡ length journal.now.changes) × IsBuilt journal.now.changes (arc_value c)) }
+    ensures { IfOk result (λ c. ((arc_value c).version ≡ length journal.now.changes) ×
+        IsBuilt journal.now.changes (arc_value c)) }
 {
     let version = journal.version();
     let live = journal.snapshot(alloc)?;
@@ -39,10 +40,11 @@ pub(crate) fn build(alloc: Global, journal: &Journal) -> Result<Arc<AtVersion>, 
 }
 
 impl<N: HubName> Desk<N> {
-    /// The machine of the newest version, which is built once.
+    // The machine of the newest version, which is built once.
     fn newest(&mut self, alloc: Global) -> Result<Arc<AtVersion>, AllocError>
         ensures same { self.new ≡ self.old }
-        ensures machine { IfOk result (λ c. ((arc_value c).version ≡ length self.old.past.seen) × IsBuilt self.old.past.seen (arc_value c)) }
+        ensures machine { IfOk result (λ c. ((arc_value c).version ≡ length self.old.past.seen) ×
+            IsBuilt self.old.past.seen (arc_value c)) }
     {
         if self.built.version != self.journal.version() {
             self.built = build(alloc, &self.journal)?;
@@ -50,7 +52,8 @@ impl<N: HubName> Desk<N> {
         Arc::try_clone(&self.built)
     }
 
-    /// The pass gets the newest version, its program and a bank. Its only failure is want of memory, and then nothing has changed.
+    /// The pass gets the newest version, its program and a bank. Its only failure is want of
+    /// memory, and then nothing has changed.
     pub(crate) fn refresh(
         &mut self,
         alloc: Global,
@@ -58,7 +61,8 @@ impl<N: HubName> Desk<N> {
         pass: &mut Pass<N>,
     ) -> Result<u32, AllocError>
         requires table { shared.now ≡ N.table }
-        ensures refreshed { IfOk result (λ version. Refreshed N.table.shape.banks version pass.old pass.new) }
+        ensures refreshed { IfOk result
+            (λ version. Refreshed N.table.shape.banks version pass.old pass.new) }
         ensures desk { self.new.past.seen ≡ self.old.past.seen }
         ensures same { OnOk result (seen_of pass.new ≡ self.new.past.seen) }
         ensures of_passes { OnOk result (All (λ c. who_of c < N.passes) (seen_of pass.new)) }

@@ -38,7 +38,8 @@ impl Parts {
     /// Makes the table, and gives the desk's seat. Its only failure is want of memory.
     pub fn new(alloc: Global, config: Config) -> Result<Parts, AllocError>
         requires valid { IsValid config }
-        ensures parts { IfOk result (λ p. (p.passes ≡ config.passes) × (p.shared.shape ≡ shape_of config)) }
+        ensures parts { IfOk result (λ p. (p.passes ≡ config.passes) ×
+            (p.shared.shape ≡ shape_of config)) }
     {
         let shape = Shape {
             banks: config.banks,
@@ -55,7 +56,7 @@ impl Parts {
     }
 }
 
-/// The pass with the next number.
+// The pass with the next number.
 fn enroll<N: HubName>(
     shared: &Shared<Workload>,
     desk: &mut Seat<Workload>,
@@ -84,7 +85,7 @@ fn enroll<N: HubName>(
     })
 }
 
-/// The desk of a hub without changes.
+// The desk of a hub without changes.
 fn open_desk<N: HubName>(
     seat: Seat<Workload>,
     journal: Journal,

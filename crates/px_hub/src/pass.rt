@@ -15,7 +15,8 @@ use px_workload::Live;
 use std::marker::{Model, PhantomData};
 use std::sync::Arc;
 
-/// With it a caller uses a hub. Contracts see its number, what it knows, the version of its program, and its bank.
+/// With it a caller uses a hub. Contracts see its number, what it knows, the version of its
+/// program, and its bank.
 #[derive(Drop)]
 pub struct Pass<N: HubName> {
     pub(crate) number: u32,
@@ -38,15 +39,19 @@ impl<N: HubName> Model for Pass<N> {
 
     ghost view = { λ p. pass_view p.number p.seat.view (arc_value p.built).version p.home };
 
-    ghost invariant = { λ p. IsPass N.table N.passes p.seat.table p.version (arc_value p.live).filters (arc_value p.built) (pass_view p.number p.seat.view (arc_value p.built).version p.home) };
+    ghost invariant = { λ p. IsPass N.table N.passes p.seat.table p.version
+        (arc_value p.live).filters (arc_value p.built)
+        (pass_view p.number p.seat.view (arc_value p.built).version p.home) };
 }
 
 impl<N: HubName> Pass<N> {
-    /// How many changes it has seen. Each names a pass of the hub, and those that name this pass are the ones that it asked for.
+    /// How many changes it has seen. Each names a pass of the hub, and those that name this pass
+    /// are the ones that it asked for.
     pub fn version(&self) -> u32
         ensures version { result ≡ length self.now.view.past.seen }
         ensures of_passes { All (λ c. who_of c < N.passes) self.now.view.past.seen }
-        ensures own { named who_of self.now.number self.now.view.past.seen ≡ self.now.view.past.mine }
+        ensures own { named who_of self.now.number self.now.view.past.seen ≡
+            self.now.view.past.mine }
         ensures legal { IsLegal (history self.now.view.past.seen) }
     {
         self.version

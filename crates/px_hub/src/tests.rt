@@ -75,7 +75,8 @@ fn replaced(rt: &impl Wait, alloc: Global) -> Option<[u32; 4]> {
     replaced_as::<Brand>(rt, parts)
 }
 
-// Another filter takes the place of the first under its id. No filter is live under the version of that change.
+// Another filter takes the place of the first under its id. No filter is live under the version of
+// that change.
 #[test]
 fn an_id_outlasts_its_filter(rt: HostRuntime) {
     assert_eq!(rt; replaced(&rt, rt.alloc()), Some([1, 2, 0, 1]));

@@ -12,7 +12,8 @@ use px_rule::Shared;
 use std::alloc::{AllocError, Global};
 
 impl<N: HubName> Desk<N> {
-    /// Each pass gets the newest version, its program and a bank. Where memory is refused, some have them and the others are as before.
+    /// Each pass gets the newest version, its program and a bank. Where memory is refused, some
+    /// have them and the others are as before.
     pub(crate) fn refresh_all(
         &mut self,
         alloc: Global,
@@ -21,7 +22,8 @@ impl<N: HubName> Desk<N> {
     ) -> Result<u32, AllocError>
         requires table { shared.now ≡ N.table }
         requires every { HoldsEvery N.passes passes.old }
-        ensures refreshed { IfOk result (λ version. AllRefreshed N.table.shape.banks version passes.old passes.new) }
+        ensures refreshed { IfOk result
+            (λ version. AllRefreshed N.table.shape.banks version passes.old passes.new) }
         ensures memory { OnErr result (SomeRefreshed N.table.shape.banks passes.old passes.new) }
     {
         for at in 0..passes.len() {
@@ -30,7 +32,7 @@ impl<N: HubName> Desk<N> {
         Ok(self.version())
     }
 
-    /// Refreshes one of the passes.
+    // Refreshes one of the passes.
     fn refresh_at(
         &mut self,
         alloc: Global,
@@ -41,7 +43,8 @@ impl<N: HubName> Desk<N> {
         requires table { shared.now ≡ N.table }
         requires within { at < length passes.old }
         ensures desk { self.new.past.seen ≡ self.old.past.seen }
-        ensures refreshed { OnOk result (RefreshedAt N.table.shape.banks N.passes self.old.past.seen at passes.old passes.new) }
+        ensures refreshed { OnOk result
+            (RefreshedAt N.table.shape.banks N.passes self.old.past.seen at passes.old passes.new) }
         ensures unchanged { OnErr result (passes.new ≡ passes.old) }
     {
         let pass = &mut passes[at];
