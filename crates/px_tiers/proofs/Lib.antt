@@ -1,1 +1,4 @@
+pub mod Collecting
+pub mod Matching
+pub mod Settling
 pub mod Shared

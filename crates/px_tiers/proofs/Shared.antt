@@ -11,7 +11,7 @@ use Rattle.px_xpath.specs.Histories.{Subscription}
 use Rattle.px_tiers.specs.Parts.{Homes, at_home, AreLiveAtHome, HasHome, AreShared, ids_where, passes_at_home, others, without_home, moved, among, IsGathered}
 
 -- two tests that agree at the elements of a list
-agree_on : (p q : Subscription → Bool) (list : List Subscription) → All (λ s. p s ≡ q s) list → filter p list ≡ filter q list
+pub agree_on : (p q : Subscription → Bool) (list : List Subscription) → All (λ s. p s ≡ q s) list → filter p list ≡ filter q list
 agree_on p q [] h = refl
 agree_on p q (s ∷ list) h = rw (All-head (λ x. p x ≡ q x) s list h, agree_on p q list (All-tail (λ x. p x ≡ q x) s list h)) refl
 
@@ -27,7 +27,7 @@ twice p q (s ∷ list) = by (q s) (p s) refl (twice p q list)
     by false c e h = h
 
 -- an id passes among those at home under a number where it is at home there and passes at all
-passes_there : (homes : Homes) (n : ℕ) (test : Way → Bool) (list : List Subscription) (id : ℕ) →
+pub passes_there : (homes : Homes) (n : ℕ) (test : Way → Bool) (list : List Subscription) (id : ℕ) →
     has (ids_where test (at_home homes n list)) id ≡ (homes id == n && has (ids_where test list) id)
 passes_there homes n test [] id = never (homes id == n)
   where

@@ -1,2 +1,4 @@
+pub mod HomeTables
 pub mod PartRows
 pub mod Parts
+pub mod Standings
