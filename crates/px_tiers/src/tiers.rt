@@ -147,7 +147,7 @@ fn found_by(
     ensures ids { IfOk result (λ ids. (parts : List (List Subscription)) (root : Root) →
         AllZip IsTier tiers.old.items parts → events_of root ≡ events.now →
         (q : ℕ) → has ids.items q ≡
-            passes_at_home (home_of homes.now) (λ filter. holds filter root) 1 parts q) }
+        passes_at_home (home_of homes.now) (λ filter. holds filter root) 1 parts q) }
     ensures stand { OnOk result ((parts : List (List Subscription)) →
         AllZip IsTier tiers.old.items parts → AllZip IsTier tiers.new.items parts) }
 {
