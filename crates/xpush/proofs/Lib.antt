@@ -8,6 +8,7 @@ pub mod FeedRefusals
 pub mod FeedTaking
 pub mod Fronts
 pub mod Lines
+pub mod OneOutput
 pub mod WhatIsFound
 pub mod Reading
 pub mod Saying

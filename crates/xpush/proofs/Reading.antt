@@ -1,5 +1,5 @@
 -- A document that is read piece by piece.
-use Rattle.std.proofs.Common.{◌≡◌, ◌<◌, ◌+◌, ℕ, ◌≤◌, ◌^◌, List, [], ◌∷◌, ◌++◌, Result, Ok, Err, IfOk, length, Option, Some, None, ap, sym, ◌∙◌, subst, arith, length-append, append-nil}
+use Rattle.std.proofs.Common.{◌≡◌, ◌<◌, ◌+◌, ℕ, ◌≤◌, ◌^◌, List, [], ◌∷◌, ◌++◌, Result, Ok, Err, IfOk, length, Option, Some, None, option_map, ap, sym, ◌∙◌, subst, arith, length-append, append-nil}
 use Rattle.px_text.specs.Nodes.{Root}
 use Rattle.px_xpath.specs.declared.numbered.Numbered.{Numbered}
 use Rattle.px_xpath.specs.Filters.{Way}
@@ -18,6 +18,8 @@ use Rattle.px_reader.specs.Reading.{HasRead, GivesOn, EndsTree}
 use Rattle.px_reader.proofs.Endless.{never_truncated}
 use Rattle.px_reader.specs.Spelling.{events_of}
 use Rattle.px_reader.specs.Verdicts.{Verdict, HasVerdict, IsFaulty, IsTree}
+use Rattle.px_document.specs.Documents.{GivesFine}
+use Rattle.px_document.proofs.Coming.{fine_so_far}
 use Rattle.xpush.specs.Documents.{Reads, IsAtEnd, GivesIds, GivesMatch, GivesFault}
 use Rattle.xpush.specs.Verdicts.{ids_accepted, ids_matching}
 use Rattle.xpush.proofs.Taking.{accepts}
@@ -135,3 +137,11 @@ pub gives_matches : {E : Type 0} (only : List Numbered) (filter : Way) (program 
     IfOk result (λ ids. GivesIds program left now ids) → IfOk result (λ ids. GivesMatch filter left now ids)
 gives_matches only filter program left now (Ok ids) e one g = gives_match only filter program left now ids e one g
 gives_matches only filter program left now (Err found) e one g = tt
+
+-- the source met a fault behind what was read
+pub gives_fine : (least : ℕ) (left before now : Option (List ℕ)) (reader : Reader) (given : List Event) → Reads least left before reader given → now ≡ before → GivesFine left now
+gives_fine least left before now reader given r e = record {
+  bytes = r.bytes;
+  taken = r.taken ∙ ap (option_map (λ rest. r.bytes ++ rest)) (sym e);
+  fine = fine_so_far reader r.bytes given r.read;
+}

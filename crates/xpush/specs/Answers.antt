@@ -15,6 +15,7 @@ use Rattle.px_feed.specs.Matches.{AnswersDocument, AnswersMatch, OutMatch, OutSh
 use Rattle.px_feed.specs.Outputs.{AreLines, Out, text_of}
 use Rattle.px_xpath.specs.Filters.{Way}
 use Rattle.px_document.specs.declared.finding.Finding.{Finding}
+use Rattle.px_document.specs.CutShort.{CutAtDocument, CutAtProof}
 use Rattle.px_document.specs.Findings as findings
 use Rattle.px_document.specs.Outputs as outputs
 use Rattle.px_document.specs.Outputs.{IsFound, OutExplain, OutVerify}
@@ -124,10 +125,14 @@ pub record ServedWhole (left after held held_after : Option (List ℕ)) : Type 0
   pub are_lines : AreLines items lines
   pub written : AddsTo held (text_of lines) held_after
 
--- what a run whose source met a fault wrote: nothing, but of a feed the lines of its whole items
+-- What a run whose source met a fault wrote: nothing, but of a feed the lines of its whole items. Nothing that was read whole is at fault. Without a source there is no such run.
 abbrev pub WritesWhole : Form → (left after held held_after : Option (List ℕ)) → Type 0
+WritesWhole (Matches filter) left after held held_after = CutAtDocument filter left after × (held_after ≡ held)
+WritesWhole (Shows filter) left after held held_after = ⊥
+WritesWhole (Explains filter) left after held held_after = CutAtDocument filter left after × (held_after ≡ held)
+WritesWhole (Verifies filter) left after held held_after = CutAtProof filter left after × (held_after ≡ held)
+WritesWhole (Makes seed filters documents) left after held held_after = ⊥
 WritesWhole Serves left after held held_after = ServedWhole left after held held_after
-WritesWhole _ left after held held_after = held_after ≡ held
 
 -- the run was not cut short
 abbrev pub is_finished : Status → Bool

@@ -18,7 +18,8 @@ use std::alloc::{AllocError, Global};
 /// Adds the filter that a text writes, and answers the line for it. An add that is refused leaves
 /// the journal as it was.
 pub fn add(alloc: Global, journal: &mut Journal, text: &[u8]) -> Result<OutLine, AllocError>
-    ensures { IfOk result (λ line. Answered (Adding text.now) journal.old.changes journal.new.changes line) }
+    ensures { IfOk result (λ line. Answered (Adding text.now) journal.old.changes
+        journal.new.changes line) }
 {
     match parse(alloc, text) {
         Ok(filter) => add_filter(journal, filter),
@@ -29,7 +30,8 @@ pub fn add(alloc: Global, journal: &mut Journal, text: &[u8]) -> Result<OutLine,
 /// Drops the filter whose id a text names, and answers the line for it. A drop that is refused
 /// leaves the journal as it was.
 pub fn remove(journal: &mut Journal, text: &[u8]) -> Result<OutLine, AllocError>
-    ensures { IfOk result (λ line. Answered (Removing text.now) journal.old.changes journal.new.changes line) }
+    ensures { IfOk result (λ line. Answered (Removing text.now) journal.old.changes
+        journal.new.changes line) }
 {
     match id_of(text) {
         Some(id) => remove_named(journal, id),
@@ -45,7 +47,8 @@ pub fn replace(
     name: &[u8],
     text: &[u8],
 ) -> Result<OutLine, AllocError>
-    ensures { IfOk result (λ line. Answered (Replacing name.now text.now) journal.old.changes journal.new.changes line) }
+    ensures { IfOk result (λ line. Answered (Replacing name.now text.now) journal.old.changes
+        journal.new.changes line) }
 {
     match parse(alloc, text) {
         Ok(filter) => replace_by(journal, id_of(name), filter),
@@ -53,7 +56,7 @@ pub fn replace(
     }
 }
 
-/// The line for a text that writes no filter.
+// The line for a text that writes no filter.
 fn no_filter(fault: ParseFault) -> Result<OutLine, AllocError>
     ensures { IfOk result (λ line. IsLineOf fault line) }
 {
@@ -63,9 +66,10 @@ fn no_filter(fault: ParseFault) -> Result<OutLine, AllocError>
     }
 }
 
-/// Adds a filter, unless it is too large or no version is left.
+// Adds a filter, unless it is too large or no version is left.
 fn add_filter(journal: &mut Journal, filter: Filter) -> Result<OutLine, AllocError>
-    ensures { IfOk result (λ line. Replies (AsksAdd (Ok (way_of filter))) journal.old.changes journal.new.changes line) }
+    ensures { IfOk result (λ line. Replies (AsksAdd (Ok (way_of filter))) journal.old.changes
+        journal.new.changes line) }
 {
     let change = Change::Add { who: 0, filter };
     match journal.refusal(&change) {
@@ -77,9 +81,10 @@ fn add_filter(journal: &mut Journal, filter: Filter) -> Result<OutLine, AllocErr
     }
 }
 
-/// Drops the filter of an id, unless none is live under it or no version is left.
+// Drops the filter of an id, unless none is live under it or no version is left.
 fn remove_named(journal: &mut Journal, id: u32) -> Result<OutLine, AllocError>
-    ensures { IfOk result (λ line. Replies (AsksDrop (Some id)) journal.old.changes journal.new.changes line) }
+    ensures { IfOk result (λ line. Replies (AsksDrop (Some id)) journal.old.changes
+        journal.new.changes line) }
 {
     let change = Change::Drop { who: 0, id };
     match journal.refusal(&change) {
@@ -91,9 +96,10 @@ fn remove_named(journal: &mut Journal, id: u32) -> Result<OutLine, AllocError>
     }
 }
 
-/// Replaces the filter of an id, if there is one.
+// Replaces the filter of an id, if there is one.
 fn replace_by(journal: &mut Journal, id: Option<u32>, filter: Filter) -> Result<OutLine, AllocError>
-    ensures { IfOk result (λ line. Replies (AsksReplace id (Ok (way_of filter))) journal.old.changes journal.new.changes line) }
+    ensures { IfOk result (λ line. Replies (AsksReplace id (Ok (way_of filter))) journal.old.changes
+        journal.new.changes line) }
 {
     match id {
         Some(id) => replace_named(journal, id, filter),
@@ -101,10 +107,11 @@ fn replace_by(journal: &mut Journal, id: Option<u32>, filter: Filter) -> Result<
     }
 }
 
-/// Replaces the filter of an id, unless none is live under it, the new one is too large beside the
-/// others, or no version is left.
+// Replaces the filter of an id, unless none is live under it, the new one is too large beside the
+// others, or no version is left.
 fn replace_named(journal: &mut Journal, id: u32, filter: Filter) -> Result<OutLine, AllocError>
-    ensures { IfOk result (λ line. Replies (AsksReplace (Some id) (Ok (way_of filter))) journal.old.changes journal.new.changes line) }
+    ensures { IfOk result (λ line. Replies (AsksReplace (Some id) (Ok (way_of filter)))
+        journal.old.changes journal.new.changes line) }
 {
     let change = Change::Replace { who: 0, id, filter };
     match journal.refusal(&change) {
@@ -116,17 +123,19 @@ fn replace_named(journal: &mut Journal, id: u32, filter: Filter) -> Result<OutLi
     }
 }
 
-/// Accepts a change that may come, and answers the version that it makes.
+// Accepts a change that may come, and answers the version that it makes.
 fn accept(journal: &mut Journal, change: Change) -> Result<u32, AllocError>
     requires legal { IsLegal (history (journal.old.changes ++ change ∷ [])) }
-    ensures version { IfOk result (λ version. version ≡ next_version (history journal.old.changes)) }
-    ensures history { IfOk result (λ _. history journal.new.changes ≡ history journal.old.changes ++ as_change change ∷ []) }
+    ensures version { IfOk result (λ version. version ≡
+        next_version (history journal.old.changes)) }
+    ensures history { IfOk result (λ _. history journal.new.changes ≡ history journal.old.changes ++
+        as_change change ∷ []) }
 {
     journal.reserve()?;
     Ok(journal.append(change))
 }
 
-/// The line for an add that is refused.
+// The line for an add that is refused.
 fn refused_add(refusal: Refusal) -> OutLine
     requires no_id { refusal ≡ Unknown → ⊥ }
     ensures line { IsAddRefused refusal result }
@@ -138,7 +147,7 @@ fn refused_add(refusal: Refusal) -> OutLine
     }
 }
 
-/// The line for a drop that is refused.
+// The line for a drop that is refused.
 fn refused_drop(refusal: Refusal) -> OutLine
     requires no_filter { (live : ℕ) → refusal ≡ TooLarge live → ⊥ }
     ensures line { IsDropRefused refusal result }
@@ -150,7 +159,7 @@ fn refused_drop(refusal: Refusal) -> OutLine
     }
 }
 
-/// The line for a replacement that is refused.
+// The line for a replacement that is refused.
 fn refused_replacement(refusal: Refusal) -> OutLine
     ensures line { IsReplaceRefused refusal result }
 {

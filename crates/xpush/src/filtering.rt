@@ -19,7 +19,8 @@ use std::alloc::AllocError;
 /// remembers and for the ids, and its only failure is want of memory.
 pub fn ids_on(machine: &mut Machine, doc: &Doc) -> Result<Ids, AllocError>
     requires ready { (program : Automata) × HasRun machine.old program [] }
-    ensures ids { (live : List numbered.Numbered) (root : Root) → HasRun machine.old (automata (subscriptions live)) [] → IsOf doc.now root →
+    ensures ids { (live : List numbered.Numbered) (root : Root) →
+        HasRun machine.old (automata (subscriptions live)) [] → IsOf doc.now root →
         IfOk result (λ ids. ids ≡ ids_matching (subscriptions live) root) }
     ensures ready { OnOk result (HasRun machine.new (program_of machine.old) []) }
 {

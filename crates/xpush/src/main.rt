@@ -8,6 +8,7 @@
 mod changes;
 mod document;
 mod filtering;
+pub mod laws;
 mod making;
 mod matching;
 mod outgoing;
@@ -32,7 +33,7 @@ use std::env::Env;
 use std::io::{ErrorKind, Stdin, Stdout};
 use std::process::ExitCode;
 
-/// The words behind the program's name. Words that are not UTF-8 are `Usage`.
+// The words behind the program's name. Words that are not UTF-8 are `Usage`.
 fn words_of(rt: &(impl Env + Alloc<A = Global>)) -> Result<Vec<String>, Status> {
     match env::args(rt) {
         Ok(args) => args.skip(1).collect(rt.alloc()).map_err(|_| Status::Memory),
@@ -41,7 +42,7 @@ fn words_of(rt: &(impl Env + Alloc<A = Global>)) -> Result<Vec<String>, Status> 
     }
 }
 
-/// What standard error is told of a status, if anything.
+// What standard error is told of a status, if anything.
 fn message(status: Status) -> Option<&'static str> {
     match status {
         Status::Done | Status::Refused => None,

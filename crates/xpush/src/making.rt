@@ -19,9 +19,12 @@ pub fn make_feed<K: Sink>(
     sink: &mut K,
 ) -> Status
     ensures ends { IsTrue (is_finished result || is_cut_short result) }
-    ensures output { IsTrue (is_finished result) → (left : Option (List ℕ)) → Made seed filters documents left left (K.held sink.old) (K.held sink.new) result }
-    ensures front { IsTrue (is_cut_short result) → (left : Option (List ℕ)) → WritesFront (Makes seed filters documents) left (K.held sink.old) (K.held sink.new) }
-    ensures write_fault { result ≡ Status.WriteFault → Rose (K.faults sink.old) (K.faults sink.new) }
+    ensures output { IsTrue (is_finished result) → (left : Option (List ℕ)) →
+        Made seed filters documents left left (K.held sink.old) (K.held sink.new) result }
+    ensures front { IsTrue (is_cut_short result) → (left : Option (List ℕ)) →
+        WritesFront (Makes seed filters documents) left (K.held sink.old) (K.held sink.new) }
+    ensures write_fault { result ≡ Status.WriteFault →
+        Rose (K.faults sink.old) (K.faults sink.new) }
     ensures sink_counts { K.faults sink.old ≤ K.faults sink.new }
 {
     match generate(alloc, seed, filters, documents) {

@@ -10,6 +10,8 @@ ghost use Rattle.px_xpath.specs.Histories.{size};
 ghost use Rattle.px_xpath.specs.Subscribed.{subscriptions};
 ghost use Rattle.px_xpath.specs.Whole.{filter as way_of};
 ghost use Rattle.px_afa.specs.Building.{automata};
+ghost use Rattle.px_document.specs.CutShort.{CutAtDocument};
+ghost use Rattle.px_document.specs.Documents.{GivesFine};
 ghost use Rattle.xpush.specs.Answers.{IsLineFor, IsLineUnder, Matched, WritesFront, is_finished, is_cut_short};
 ghost use Rattle.xpush.specs.Documents.{GivesFault, GivesMatch};
 ghost use Rattle.xpush.specs.Forms.{Matches};
@@ -34,11 +36,18 @@ pub fn match_document<S: Source, K: Sink>(
     sink: &mut K,
 ) -> Status
     ensures not_usage { result ≡ Status.Usage → ⊥ }
-    ensures output { IsTrue (is_finished result) → Matched filter.now (S.left source.old) (S.left source.new) (K.held sink.old) (K.held sink.new) result }
-    ensures front { IsTrue (is_cut_short result) → WritesFront (Matches filter.now) (S.left source.old) (K.held sink.old) (K.held sink.new) }
-    ensures read_fault { result ≡ Status.ReadFault → Rose (S.faults source.old) (S.faults source.new) }
+    ensures output { IsTrue (is_finished result) →
+        Matched filter.now (S.left source.old) (S.left source.new) (K.held sink.old)
+        (K.held sink.new) result }
+    ensures front { IsTrue (is_cut_short result) →
+        WritesFront (Matches filter.now) (S.left source.old) (K.held sink.old) (K.held sink.new) }
+    ensures read_fault { result ≡ Status.ReadFault →
+        Rose (S.faults source.old) (S.faults source.new) }
+    ensures not_at_fault { result ≡ Status.ReadFault →
+        CutAtDocument filter.now (S.left source.old) (S.left source.new) }
     ensures unwritten { result ≡ Status.ReadFault → K.held sink.new ≡ K.held sink.old }
-    ensures write_fault { result ≡ Status.WriteFault → Rose (K.faults sink.old) (K.faults sink.new) }
+    ensures write_fault { result ≡ Status.WriteFault →
+        Rose (K.faults sink.old) (K.faults sink.new) }
     ensures source_counts { S.faults source.old ≤ S.faults source.new }
     ensures sink_counts { K.faults sink.old ≤ K.faults sink.new }
 {
@@ -52,7 +61,7 @@ pub fn match_document<S: Source, K: Sink>(
     }
 }
 
-/// How a match ends that has written its line.
+// How a match ends that has written its line.
 fn status_behind(line: &OutLine) -> Status
     ensures status { result ≡ status_of_line line.now }
     ensures finished { IsTrue (is_finished result) }
@@ -63,11 +72,14 @@ fn status_behind(line: &OutLine) -> Status
     }
 }
 
-/// The line for a filter's text and the document that is left in the source. A filter that is
-/// refused is answered before anything is read.
+// The line for a filter's text and the document that is left in the source. A filter that is
+// refused is answered before anything is read.
 fn line_for<S: Source>(alloc: Global, text: &[u8], source: &mut S) -> Result<OutLine, Cut>
-    ensures line { IfOk result (λ line. IsLineFor text.now (S.left source.old) (S.left source.new) line) }
+    ensures line { IfOk result (λ line. IsLineFor text.now (S.left source.old) (S.left source.new)
+        line) }
     ensures failed { result ≡ Err Cut.Source → Rose (S.faults source.old) (S.faults source.new) }
+    ensures not_at_fault { result ≡ Err Cut.Source →
+        CutAtDocument text.now (S.left source.old) (S.left source.new) }
     ensures never_falls { S.faults source.old ≤ S.faults source.new }
 {
     match parse(alloc, text) {
@@ -76,7 +88,7 @@ fn line_for<S: Source>(alloc: Global, text: &[u8], source: &mut S) -> Result<Out
     }
 }
 
-/// The line for a filter that is refused.
+// The line for a filter that is refused.
 fn refusal(fault: ParseFault) -> Result<OutLine, Cut>
     ensures { result ≡ refusal_of fault }
 {
@@ -86,11 +98,14 @@ fn refusal(fault: ParseFault) -> Result<OutLine, Cut>
     }
 }
 
-/// The line for the document that is left in the source under the filter.
+// The line for the document that is left in the source under the filter.
 fn line_under<S: Source>(alloc: Global, filter: Filter, source: &mut S) -> Result<OutLine, Cut>
     requires small { size (way_of filter) ≤ 500_000 }
-    ensures line { IfOk result (λ line. IsLineUnder (way_of filter) (S.left source.old) (S.left source.new) line) }
+    ensures line { IfOk result (λ line. IsLineUnder (way_of filter) (S.left source.old)
+        (S.left source.new) line) }
     ensures failed { result ≡ Err Cut.Source → Rose (S.faults source.old) (S.faults source.new) }
+    ensures not_at_fault { result ≡ Err Cut.Source →
+        GivesFine (S.left source.old) (S.left source.new) }
     ensures never_falls { S.faults source.old ≤ S.faults source.new }
 {
     match ids_under(alloc, filter, source) {
@@ -99,30 +114,35 @@ fn line_under<S: Source>(alloc: Global, filter: Filter, source: &mut S) -> Resul
     }
 }
 
-/// The ids that the document left in the source matches, where the filter is the only one and has
-/// the id 1.
+// The ids that the document left in the source matches, where the filter is the only one and has
+// the id 1.
 fn ids_under<S: Source>(alloc: Global, filter: Filter, source: &mut S) -> Result<Ids, Stop>
     requires small { size (way_of filter) ≤ 500_000 }
-    ensures ids { IfOk result (λ ids. GivesMatch (way_of filter) (S.left source.old) (S.left source.new) ids) }
-    ensures fault { (fault : DocFault) → result ≡ Err (Stop.Doc fault) → GivesFault (S.left source.old) (S.left source.new) fault }
+    ensures ids { IfOk result (λ ids. GivesMatch (way_of filter) (S.left source.old)
+        (S.left source.new) ids) }
+    ensures fault { (fault : DocFault) → result ≡ Err (Stop.Doc fault) →
+        GivesFault (S.left source.old) (S.left source.new) fault }
     ensures failed { result ≡ Err Stop.Source → Rose (S.faults source.old) (S.faults source.new) }
+    ensures not_at_fault { result ≡ Err Stop.Source →
+        GivesFine (S.left source.old) (S.left source.new) }
     ensures never_falls { S.faults source.old ≤ S.faults source.new }
 {
     let program = program_of(alloc, filter)?;
     ids_in(alloc, source, program)
 }
 
-/// The program of the filter alone, under the id 1.
+// The program of the filter alone, under the id 1.
 fn program_of(alloc: Global, filter: Filter) -> Result<Arc<Program>, AllocError>
     requires small { size (way_of filter) ≤ 500_000 }
-    ensures program { IfOk result (λ program. arc_value program ≡ automata (subscriptions (record { id = 1; filter = filter } ∷ []))) }
+    ensures program { IfOk result (λ program. arc_value program ≡
+        automata (subscriptions (record { id = 1; filter = filter } ∷ []))) }
 {
     let only = [Numbered { id: 1, filter }];
     let program = Program::build(alloc, &only)?;
     Ok(Arc::new(alloc, program)?)
 }
 
-/// The line for a document whose reading was stopped.
+// The line for a document whose reading was stopped.
 fn outcome(stop: Stop) -> Result<OutLine, Cut>
     ensures { result ≡ outcome_of stop }
 {
@@ -136,7 +156,7 @@ fn outcome(stop: Stop) -> Result<OutLine, Cut>
     }
 }
 
-/// The line for a document that matches the filters with these ids.
+// The line for a document that matches the filters with these ids.
 fn answer(ids: &[u32]) -> OutLine
     ensures { result ≡ (if is_empty ids.now then OutLine.No else OutLine.Yes) }
 {

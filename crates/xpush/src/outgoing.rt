@@ -41,8 +41,10 @@ impl Outgoing {
         line: &OutLine,
         sink: &mut K,
     ) -> Result<(), Status>
-        ensures says { SaysOn result self.old self.new (K.held sink.old) (K.held sink.new) (line.now ∷ []) }
-        ensures write_fault { result ≡ Err Status.WriteFault → Rose (K.faults sink.old) (K.faults sink.new) }
+        ensures says { SaysOn result self.old self.new (K.held sink.old) (K.held sink.new)
+            (line.now ∷ []) }
+        ensures write_fault { result ≡ Err Status.WriteFault →
+            Rose (K.faults sink.old) (K.faults sink.new) }
         ensures never_falls { K.faults sink.old ≤ K.faults sink.new }
     {
         self.take(alloc, line)?;
@@ -55,7 +57,8 @@ impl Outgoing {
     /// Writes all that waits.
     pub fn write<K: Sink>(&mut self, sink: &mut K) -> Result<(), Status>
         ensures rest { WritesRest result self.old self.new (K.held sink.old) (K.held sink.new) }
-        ensures write_fault { result ≡ Err Status.WriteFault → Rose (K.faults sink.old) (K.faults sink.new) }
+        ensures write_fault { result ≡ Err Status.WriteFault →
+            Rose (K.faults sink.old) (K.faults sink.new) }
         ensures never_falls { K.faults sink.old ≤ K.faults sink.new }
     {
         match write_whole(self.pending.as_slice(), sink) {
@@ -71,8 +74,11 @@ impl Outgoing {
     /// Writes all that waits at the end of a run, and answers its status: `Refused` where one of
     /// its lines was a refusal.
     pub fn finish<K: Sink>(&mut self, sink: &mut K) -> Status
-        ensures closes { (held : Option (List ℕ)) (lines : List out.OutLine) → HasSaid self.old held (K.held sink.old) lines → Closes result held (K.held sink.new) lines }
-        ensures write_fault { result ≡ Status.WriteFault → Rose (K.faults sink.old) (K.faults sink.new) }
+        ensures closes { (held : Option (List ℕ)) (lines : List out.OutLine) →
+            HasSaid self.old held (K.held sink.old) lines →
+            Closes result held (K.held sink.new) lines }
+        ensures write_fault { result ≡ Status.WriteFault →
+            Rose (K.faults sink.old) (K.faults sink.new) }
         ensures never_falls { K.faults sink.old ≤ K.faults sink.new }
     {
         match self.write(sink) {
@@ -83,9 +89,11 @@ impl Outgoing {
 
     /// Says the line of a fault, which is the last, and ends the run.
     pub fn refuse<K: Sink>(&mut self, alloc: Global, fault: FeedFault, sink: &mut K) -> Status
-        ensures closes { (held : Option (List ℕ)) (lines : List out.OutLine) → HasSaid self.old held (K.held sink.old) lines →
+        ensures closes { (held : Option (List ℕ)) (lines : List out.OutLine) →
+            HasSaid self.old held (K.held sink.old) lines →
             Closes result held (K.held sink.new) (lines ++ variants.Faulty fault ∷ []) }
-        ensures write_fault { result ≡ Status.WriteFault → Rose (K.faults sink.old) (K.faults sink.new) }
+        ensures write_fault { result ≡ Status.WriteFault →
+            Rose (K.faults sink.old) (K.faults sink.new) }
         ensures never_falls { K.faults sink.old ≤ K.faults sink.new }
     {
         match self.say(alloc, &OutLine::Faulty(fault), sink) {
@@ -96,8 +104,11 @@ impl Outgoing {
 
     /// Writes all that waits in a run whose source met a fault, and answers its status.
     pub fn break_off<K: Sink>(&mut self, sink: &mut K) -> Status
-        ensures breaks { (held : Option (List ℕ)) (lines : List out.OutLine) → HasSaid self.old held (K.held sink.old) lines → Breaks result held (K.held sink.new) lines }
-        ensures write_fault { result ≡ Status.WriteFault → Rose (K.faults sink.old) (K.faults sink.new) }
+        ensures breaks { (held : Option (List ℕ)) (lines : List out.OutLine) →
+            HasSaid self.old held (K.held sink.old) lines →
+            Breaks result held (K.held sink.new) lines }
+        ensures write_fault { result ≡ Status.WriteFault →
+            Rose (K.faults sink.old) (K.faults sink.new) }
         ensures never_falls { K.faults sink.old ≤ K.faults sink.new }
     {
         match self.write(sink) {
@@ -106,9 +117,10 @@ impl Outgoing {
         }
     }
 
-    /// Takes a line in.
+    // Takes a line in.
     fn take(&mut self, alloc: Global, line: &OutLine) -> Result<(), Status>
-        ensures says { (now : Option (List ℕ)) → SaysOn result self.old self.new now now (line.now ∷ []) }
+        ensures says { (now : Option (List ℕ)) →
+            SaysOn result self.old self.new now now (line.now ∷ []) }
         ensures memory { result ≡ Err Status.WriteFault → ⊥ }
     {
         let Ok(text) = line_of(alloc, line) else {
@@ -122,7 +134,7 @@ impl Outgoing {
     }
 }
 
-/// How a run ends that has written all its lines.
+// How a run ends that has written all its lines.
 fn ending(refused: bool) -> Status
     ensures { result ≡ (if refused then Status.Refused else Status.Done) }
 {
@@ -133,7 +145,7 @@ fn ending(refused: bool) -> Status
     }
 }
 
-/// Whether a line is a refusal.
+// Whether a line is a refusal.
 fn is_refusal(line: &OutLine) -> bool
     ensures { result ≡ refuses line.now }
 {

@@ -14,9 +14,12 @@ use px_io::{Sink, WriteAnswer};
 pub fn write_answer<K: Sink>(text: &[u8], status: Status, sink: &mut K) -> Status
     requires { IsTrue (is_finished status) }
     ensures ends { IsTrue (is_finished result || is_cut_short result) }
-    ensures whole { IsTrue (is_finished result) → AddsTo (K.held sink.old) text.now (K.held sink.new) × (result ≡ status) }
-    ensures front { IsTrue (is_cut_short result) → AddsFront (K.held sink.old) text.now (K.held sink.new) }
-    ensures write_fault { result ≡ Status.WriteFault → Rose (K.faults sink.old) (K.faults sink.new) }
+    ensures whole { IsTrue (is_finished result) →
+        AddsTo (K.held sink.old) text.now (K.held sink.new) × (result ≡ status) }
+    ensures front { IsTrue (is_cut_short result) →
+        AddsFront (K.held sink.old) text.now (K.held sink.new) }
+    ensures write_fault { result ≡ Status.WriteFault →
+        Rose (K.faults sink.old) (K.faults sink.new) }
     ensures sink_counts { K.faults sink.old ≤ K.faults sink.new }
 {
     match write_whole(text, sink) {

@@ -21,8 +21,9 @@ use std::alloc::Global;
 ///
 /// At `Done` and `Refused` the bytes written are the whole output, and at `WriteFault` and
 /// `Memory` its front. After a read fault nothing is written, but for `serial`, which has written
-/// the lines of the items that are whole in the bytes read. Words that are in no form are `Usage`,
-/// but for want of memory, and read and write nothing.
+/// the lines of the items that are whole in the bytes read; the filter has no fault, and no line
+/// that is whole in the bytes read is at fault. Words that are in no form are `Usage`, but for want
+/// of memory, and read and write nothing.
 pub fn plain<S: Source, K: Sink>(
     alloc: Global,
     words: &[String],
@@ -30,16 +31,22 @@ pub fn plain<S: Source, K: Sink>(
     sink: &mut K,
 ) -> Status
     ensures usage { result ≡ Status.Usage → IsNone (form_of (texts words.now)) }
-    ensures no_form { IsNone (form_of (texts words.now)) → (result ≡ Status.Usage) ⊎ (IsTrue (have_options (texts words.now)) × (result ≡ Status.Memory)) }
-    ensures untouched { IsNone (form_of (texts words.now)) → (S.left source.new ≡ S.left source.old) × (K.held sink.new ≡ K.held sink.old) }
+    ensures no_form { IsNone (form_of (texts words.now)) → (result ≡ Status.Usage) ⊎
+        (IsTrue (have_options (texts words.now)) × (result ≡ Status.Memory)) }
+    ensures untouched { IsNone (form_of (texts words.now)) →
+        (S.left source.new ≡ S.left source.old) × (K.held sink.new ≡ K.held sink.old) }
     ensures output { IsTrue (is_finished result) → IfSome (form_of (texts words.now)) (λ said.
-        Answers said (S.left source.old) (S.left source.new) (K.held sink.old) (K.held sink.new) result) }
+        Answers said (S.left source.old) (S.left source.new) (K.held sink.old) (K.held sink.new)
+        result) }
     ensures front { IsTrue (is_cut_short result) → IfSome (form_of (texts words.now)) (λ said.
         WritesFront said (S.left source.old) (K.held sink.old) (K.held sink.new)) }
-    ensures read_fault { result ≡ Status.ReadFault → Rose (S.faults source.old) (S.faults source.new) }
+    ensures read_fault { result ≡ Status.ReadFault →
+        Rose (S.faults source.old) (S.faults source.new) }
     ensures whole_items { result ≡ Status.ReadFault → IfSome (form_of (texts words.now)) (λ said.
-        WritesWhole said (S.left source.old) (S.left source.new) (K.held sink.old) (K.held sink.new)) }
-    ensures write_fault { result ≡ Status.WriteFault → Rose (K.faults sink.old) (K.faults sink.new) }
+        WritesWhole said (S.left source.old) (S.left source.new) (K.held sink.old)
+        (K.held sink.new)) }
+    ensures write_fault { result ≡ Status.WriteFault →
+        Rose (K.faults sink.old) (K.faults sink.new) }
     ensures source_counts { S.faults source.old ≤ S.faults source.new }
     ensures sink_counts { K.faults sink.old ≤ K.faults sink.new }
 {
@@ -50,7 +57,7 @@ pub fn plain<S: Source, K: Sink>(
     }
 }
 
-/// Runs the command from the source to the sink.
+// Runs the command from the source to the sink.
 fn run_command<S: Source, K: Sink>(
     alloc: Global,
     command: Command<'_>,
@@ -58,11 +65,18 @@ fn run_command<S: Source, K: Sink>(
     sink: &mut K,
 ) -> Status
     ensures not_usage { result ≡ Status.Usage → ⊥ }
-    ensures output { IsTrue (is_finished result) → Answers (form command.entry) (S.left source.old) (S.left source.new) (K.held sink.old) (K.held sink.new) result }
-    ensures front { IsTrue (is_cut_short result) → WritesFront (form command.entry) (S.left source.old) (K.held sink.old) (K.held sink.new) }
-    ensures read_fault { result ≡ Status.ReadFault → Rose (S.faults source.old) (S.faults source.new) }
-    ensures whole_items { result ≡ Status.ReadFault → WritesWhole (form command.entry) (S.left source.old) (S.left source.new) (K.held sink.old) (K.held sink.new) }
-    ensures write_fault { result ≡ Status.WriteFault → Rose (K.faults sink.old) (K.faults sink.new) }
+    ensures output { IsTrue (is_finished result) →
+        Answers (form command.entry) (S.left source.old) (S.left source.new) (K.held sink.old)
+        (K.held sink.new) result }
+    ensures front { IsTrue (is_cut_short result) →
+        WritesFront (form command.entry) (S.left source.old) (K.held sink.old) (K.held sink.new) }
+    ensures read_fault { result ≡ Status.ReadFault →
+        Rose (S.faults source.old) (S.faults source.new) }
+    ensures whole_items { result ≡ Status.ReadFault →
+        WritesWhole (form command.entry) (S.left source.old) (S.left source.new) (K.held sink.old)
+        (K.held sink.new) }
+    ensures write_fault { result ≡ Status.WriteFault →
+        Rose (K.faults sink.old) (K.faults sink.new) }
     ensures source_counts { S.faults source.old ≤ S.faults source.new }
     ensures sink_counts { K.faults sink.old ≤ K.faults sink.new }
 {

@@ -3,6 +3,7 @@
 ghost use Rattle.std.specs.Prelude.{◌≡◌, ◌≤◌, ◌||◌, IsTrue};
 ghost use Rattle.px_io.specs.Faults.{Rose};
 ghost use Rattle.px_io.specs.Flows.{AddsTo};
+ghost use Rattle.px_document.specs.CutShort.{CutAtDocument, CutAtProof};
 ghost use Rattle.px_document.specs.Findings as findings;
 ghost use Rattle.px_document.specs.Outputs as outputs;
 ghost use Rattle.xpush.specs.Answers.{Proved, WritesFront, is_finished, is_cut_short};
@@ -23,11 +24,18 @@ pub fn explain_document<S: Source, K: Sink>(
     sink: &mut K,
 ) -> Status
     ensures not_usage { result ≡ Status.Usage → ⊥ }
-    ensures output { IsTrue (is_finished result) → Proved (outputs.Explains filter.now) (S.left source.old) (S.left source.new) (K.held sink.old) (K.held sink.new) result }
-    ensures front { IsTrue (is_cut_short result) → WritesFront (Explains filter.now) (S.left source.old) (K.held sink.old) (K.held sink.new) }
-    ensures read_fault { result ≡ Status.ReadFault → Rose (S.faults source.old) (S.faults source.new) }
+    ensures output { IsTrue (is_finished result) →
+        Proved (outputs.Explains filter.now) (S.left source.old) (S.left source.new)
+        (K.held sink.old) (K.held sink.new) result }
+    ensures front { IsTrue (is_cut_short result) →
+        WritesFront (Explains filter.now) (S.left source.old) (K.held sink.old) (K.held sink.new) }
+    ensures read_fault { result ≡ Status.ReadFault →
+        Rose (S.faults source.old) (S.faults source.new) }
+    ensures not_at_fault { result ≡ Status.ReadFault →
+        CutAtDocument filter.now (S.left source.old) (S.left source.new) }
     ensures unwritten { result ≡ Status.ReadFault → K.held sink.new ≡ K.held sink.old }
-    ensures write_fault { result ≡ Status.WriteFault → Rose (K.faults sink.old) (K.faults sink.new) }
+    ensures write_fault { result ≡ Status.WriteFault →
+        Rose (K.faults sink.old) (K.faults sink.new) }
     ensures source_counts { S.faults source.old ≤ S.faults source.new }
     ensures sink_counts { K.faults sink.old ≤ K.faults sink.new }
 {
@@ -46,11 +54,18 @@ pub fn verify_proof<S: Source, K: Sink>(
     sink: &mut K,
 ) -> Status
     ensures not_usage { result ≡ Status.Usage → ⊥ }
-    ensures output { IsTrue (is_finished result) → Proved (outputs.Verifies filter.now) (S.left source.old) (S.left source.new) (K.held sink.old) (K.held sink.new) result }
-    ensures front { IsTrue (is_cut_short result) → WritesFront (Verifies filter.now) (S.left source.old) (K.held sink.old) (K.held sink.new) }
-    ensures read_fault { result ≡ Status.ReadFault → Rose (S.faults source.old) (S.faults source.new) }
+    ensures output { IsTrue (is_finished result) →
+        Proved (outputs.Verifies filter.now) (S.left source.old) (S.left source.new)
+        (K.held sink.old) (K.held sink.new) result }
+    ensures front { IsTrue (is_cut_short result) →
+        WritesFront (Verifies filter.now) (S.left source.old) (K.held sink.old) (K.held sink.new) }
+    ensures read_fault { result ≡ Status.ReadFault →
+        Rose (S.faults source.old) (S.faults source.new) }
+    ensures not_at_fault { result ≡ Status.ReadFault →
+        CutAtProof filter.now (S.left source.old) (S.left source.new) }
     ensures unwritten { result ≡ Status.ReadFault → K.held sink.new ≡ K.held sink.old }
-    ensures write_fault { result ≡ Status.WriteFault → Rose (K.faults sink.old) (K.faults sink.new) }
+    ensures write_fault { result ≡ Status.WriteFault →
+        Rose (K.faults sink.old) (K.faults sink.new) }
     ensures source_counts { S.faults source.old ≤ S.faults source.new }
     ensures sink_counts { K.faults sink.old ≤ K.faults sink.new }
 {
@@ -61,12 +76,16 @@ pub fn verify_proof<S: Source, K: Sink>(
     }
 }
 
-/// Writes what was found, with which the run ends.
+// Writes what was found, with which the run ends.
 fn write_finding<K: Sink>(alloc: Global, finding: &Finding, sink: &mut K) -> Status
     ensures ends { IsTrue (is_finished result || is_cut_short result) }
-    ensures whole { IsTrue (is_finished result) → AddsTo (K.held sink.old) (findings.text finding.now) (K.held sink.new) × (result ≡ findings.status finding.now) }
-    ensures front { IsTrue (is_cut_short result) → AddsFront (K.held sink.old) (findings.text finding.now) (K.held sink.new) }
-    ensures write_fault { result ≡ Status.WriteFault → Rose (K.faults sink.old) (K.faults sink.new) }
+    ensures whole { IsTrue (is_finished result) →
+        AddsTo (K.held sink.old) (findings.text finding.now) (K.held sink.new) ×
+        (result ≡ findings.status finding.now) }
+    ensures front { IsTrue (is_cut_short result) →
+        AddsFront (K.held sink.old) (findings.text finding.now) (K.held sink.new) }
+    ensures write_fault { result ≡ Status.WriteFault →
+        Rose (K.faults sink.old) (K.faults sink.new) }
     ensures sink_counts { K.faults sink.old ≤ K.faults sink.new }
 {
     match text_of(alloc, finding) {

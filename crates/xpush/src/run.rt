@@ -26,16 +26,22 @@ pub fn run<R: Threads + Wait + Sync, S: Source, K: Sink, G: Gate>(
     _gate: &G,
 ) -> Status
     ensures usage { result ≡ Status.Usage → IsNone (form_of (texts words.now)) }
-    ensures no_form { IsNone (form_of (texts words.now)) → (result ≡ Status.Usage) ⊎ (IsTrue (have_options (texts words.now)) × (result ≡ Status.Memory)) }
-    ensures untouched { IsNone (form_of (texts words.now)) → (S.left source.new ≡ S.left source.old) × (K.held sink.new ≡ K.held sink.old) }
+    ensures no_form { IsNone (form_of (texts words.now)) → (result ≡ Status.Usage) ⊎
+        (IsTrue (have_options (texts words.now)) × (result ≡ Status.Memory)) }
+    ensures untouched { IsNone (form_of (texts words.now)) →
+        (S.left source.new ≡ S.left source.old) × (K.held sink.new ≡ K.held sink.old) }
     ensures output { IsTrue (is_finished result) → IfSome (form_of (texts words.now)) (λ said.
-        Answers said (S.left source.old) (S.left source.new) (K.held sink.old) (K.held sink.new) result) }
+        Answers said (S.left source.old) (S.left source.new) (K.held sink.old) (K.held sink.new)
+        result) }
     ensures front { IsTrue (is_cut_short result) → IfSome (form_of (texts words.now)) (λ said.
         WritesFront said (S.left source.old) (K.held sink.old) (K.held sink.new)) }
-    ensures read_fault { result ≡ Status.ReadFault → Rose (S.faults source.old) (S.faults source.new) }
+    ensures read_fault { result ≡ Status.ReadFault →
+        Rose (S.faults source.old) (S.faults source.new) }
     ensures whole_items { result ≡ Status.ReadFault → IfSome (form_of (texts words.now)) (λ said.
-        WritesWhole said (S.left source.old) (S.left source.new) (K.held sink.old) (K.held sink.new)) }
-    ensures write_fault { result ≡ Status.WriteFault → Rose (K.faults sink.old) (K.faults sink.new) }
+        WritesWhole said (S.left source.old) (S.left source.new) (K.held sink.old)
+        (K.held sink.new)) }
+    ensures write_fault { result ≡ Status.WriteFault →
+        Rose (K.faults sink.old) (K.faults sink.new) }
     ensures source_counts { S.faults source.old ≤ S.faults source.new }
     ensures sink_counts { K.faults sink.old ≤ K.faults sink.new }
 {

@@ -16,8 +16,10 @@ use std::alloc::AllocError;
 /// Gives the machine the events that come next, in order. It takes memory as the machine needs it,
 /// and its only failure is want of memory. The machine may then only be dropped, or restarted.
 pub fn take_all(machine: &mut Machine, events: &[Event]) -> Result<(), AllocError>
-    requires begun { (program : Automata) × (given : List Happened) × HasRun machine.old program given }
-    ensures ok { OnOk result ((program : Automata) (given : List Happened) → HasRun machine.old program given → HasRun machine.new program (given ++ events.now)) }
+    requires begun { (program : Automata) × (given : List Happened) ×
+        HasRun machine.old program given }
+    ensures ok { OnOk result ((program : Automata) (given : List Happened) →
+        HasRun machine.old program given → HasRun machine.new program (given ++ events.now)) }
     ensures same { program_of machine.new ≡ program_of machine.old }
 {
     for next in events {
@@ -28,8 +30,10 @@ pub fn take_all(machine: &mut Machine, events: &[Event]) -> Result<(), AllocErro
 
 /// The same with the events of a list.
 pub fn take_listed(machine: &mut Machine, events: &EventList) -> Result<(), AllocError>
-    requires begun { (program : Automata) × (given : List Happened) × HasRun machine.old program given }
-    ensures ok { OnOk result ((program : Automata) (given : List Happened) → HasRun machine.old program given → HasRun machine.new program (given ++ events.now)) }
+    requires begun { (program : Automata) × (given : List Happened) ×
+        HasRun machine.old program given }
+    ensures ok { OnOk result ((program : Automata) (given : List Happened) →
+        HasRun machine.old program given → HasRun machine.new program (given ++ events.now)) }
     ensures same { program_of machine.new ≡ program_of machine.old }
 {
     for place in 0..events.len() {
@@ -41,8 +45,10 @@ pub fn take_listed(machine: &mut Machine, events: &EventList) -> Result<(), Allo
 /// The ids of the filters that hold of a document, when these last events of it have been taken
 /// as well. The machine is then before the next document.
 pub fn ids_behind(machine: &mut Machine, events: &[Event]) -> Result<Ids, AllocError>
-    requires last { (program : Automata) × (given : List Happened) × (root : Root) × HasRun machine.old program given × (events_of root ≡ given ++ events.now) }
-    ensures ids { IfOk result (λ ids. (program : Automata) (given : List Happened) (root : Root) → HasRun machine.old program given →
+    requires last { (program : Automata) × (given : List Happened) × (root : Root) ×
+        HasRun machine.old program given × (events_of root ≡ given ++ events.now) }
+    ensures ids { IfOk result (λ ids. (program : Automata) (given : List Happened) (root : Root) →
+        HasRun machine.old program given →
         events_of root ≡ given ++ events.now → ids ≡ ids_accepted program root) }
     ensures ready { OnOk result (HasRun machine.new (program_of machine.old) []) }
 {

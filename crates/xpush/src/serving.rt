@@ -33,11 +33,16 @@ const MOST_ITEMS: u64 = 1_099_511_627_776;
 /// of the items that are whole in the bytes read.
 pub fn serve_feed<S: Source, K: Sink>(alloc: Global, source: &mut S, sink: &mut K) -> Status
     ensures not_usage { result ≡ Status.Usage → ⊥ }
-    ensures output { IsTrue (is_finished result) → Served (S.left source.old) (S.left source.new) (K.held sink.old) (K.held sink.new) result }
-    ensures front { IsTrue (is_cut_short result) → WritesFront Serves (S.left source.old) (K.held sink.old) (K.held sink.new) }
-    ensures whole_items { result ≡ Status.ReadFault → ServedWhole (S.left source.old) (S.left source.new) (K.held sink.old) (K.held sink.new) }
-    ensures read_fault { result ≡ Status.ReadFault → Rose (S.faults source.old) (S.faults source.new) }
-    ensures write_fault { result ≡ Status.WriteFault → Rose (K.faults sink.old) (K.faults sink.new) }
+    ensures output { IsTrue (is_finished result) →
+        Served (S.left source.old) (S.left source.new) (K.held sink.old) (K.held sink.new) result }
+    ensures front { IsTrue (is_cut_short result) →
+        WritesFront Serves (S.left source.old) (K.held sink.old) (K.held sink.new) }
+    ensures whole_items { result ≡ Status.ReadFault →
+        ServedWhole (S.left source.old) (S.left source.new) (K.held sink.old) (K.held sink.new) }
+    ensures read_fault { result ≡ Status.ReadFault →
+        Rose (S.faults source.old) (S.faults source.new) }
+    ensures write_fault { result ≡ Status.WriteFault →
+        Rose (K.faults sink.old) (K.faults sink.new) }
     ensures source_counts { S.faults source.old ≤ S.faults source.new }
     ensures sink_counts { K.faults sink.old ≤ K.faults sink.new }
 {
@@ -57,7 +62,7 @@ pub struct Serving {
 }
 
 impl Serving {
-    /// Before the first item.
+    // Before the first item.
     fn new(alloc: Global) -> Result<Serving, AllocError>
         ensures begun { IfOk result (λ serving. (first : Streams) → Rests serving first first 0) }
     {
@@ -69,11 +74,14 @@ impl Serving {
         })
     }
 
-    /// Answers all items, and ends the run.
+    // Answers all items, and ends the run.
     fn run<S: Source, K: Sink>(&mut self, source: &mut S, sink: &mut K) -> Status
         requires begun { (first : Streams) → Rests self.old first first 0 }
-        ensures ended { Ended result (streams (S.left source.old) (K.held sink.old) (S.faults source.old)) (streams (S.left source.new) (K.held sink.new) (S.faults source.new)) }
-        ensures write_fault { result ≡ Status.WriteFault → Rose (K.faults sink.old) (K.faults sink.new) }
+        ensures ended { Ended result (streams (S.left source.old) (K.held sink.old)
+            (S.faults source.old)) (streams (S.left source.new) (K.held sink.new)
+            (S.faults source.new)) }
+        ensures write_fault { result ≡ Status.WriteFault →
+            Rose (K.faults sink.old) (K.faults sink.new) }
         ensures source_counts { S.faults source.old ≤ S.faults source.new }
         ensures sink_counts { K.faults sink.old ≤ K.faults sink.new }
     {
@@ -83,12 +91,18 @@ impl Serving {
         }
     }
 
-    /// Answers an item and all behind it, and ends the run.
+    // Answers an item and all behind it, and ends the run.
     fn serve_all<S: Source, K: Sink>(&mut self, item: Item, source: &mut S, sink: &mut K) -> Status
-        requires held { (first : Streams) × Holds item self.old first (streams (S.left source.old) (K.held sink.old) (S.faults source.old)) 0 }
-        ensures ended { (first : Streams) → Holds item self.old first (streams (S.left source.old) (K.held sink.old) (S.faults source.old)) 0 →
-            Ended result first (streams (S.left source.new) (K.held sink.new) (S.faults source.new)) }
-        ensures write_fault { result ≡ Status.WriteFault → Rose (K.faults sink.old) (K.faults sink.new) }
+        requires held { (first : Streams) ×
+            Holds item self.old first (streams (S.left source.old) (K.held sink.old)
+            (S.faults source.old)) 0 }
+        ensures ended { (first : Streams) →
+            Holds item self.old first (streams (S.left source.old) (K.held sink.old)
+            (S.faults source.old)) 0 →
+            Ended result first (streams (S.left source.new) (K.held sink.new)
+            (S.faults source.new)) }
+        ensures write_fault { result ≡ Status.WriteFault →
+            Rose (K.faults sink.old) (K.faults sink.new) }
         ensures source_counts { S.faults source.old ≤ S.faults source.new }
         ensures sink_counts { K.faults sink.old ≤ K.faults sink.new }
     {
@@ -102,8 +116,8 @@ impl Serving {
         unreachable!()
     }
 
-    /// Answers an item, and takes the next one. An error is the status with which the run has
-    /// ended, here and below.
+    // Answers an item, and takes the next one. An error is the status with which the run has
+    // ended, here and below.
     fn serve<S: Source, K: Sink>(
         &mut self,
         item: Item,
@@ -111,8 +125,10 @@ impl Serving {
         sink: &mut K,
     ) -> Result<Item, Status>
         ensures serves { ServesItem item result self.old self.new
-            (streams (S.left source.old) (K.held sink.old) (S.faults source.old)) (streams (S.left source.new) (K.held sink.new) (S.faults source.new)) }
-        ensures write_fault { result ≡ Err Status.WriteFault → Rose (K.faults sink.old) (K.faults sink.new) }
+            (streams (S.left source.old) (K.held sink.old) (S.faults source.old))
+            (streams (S.left source.new) (K.held sink.new) (S.faults source.new)) }
+        ensures write_fault { result ≡ Err Status.WriteFault →
+            Rose (K.faults sink.old) (K.faults sink.new) }
         ensures source_counts { S.faults source.old ≤ S.faults source.new }
         ensures sink_counts { K.faults sink.old ≤ K.faults sink.new }
     {
@@ -124,7 +140,7 @@ impl Serving {
         }
     }
 
-    /// Adds the filter that a text writes, and takes the next item.
+    // Adds the filter that a text writes, and takes the next item.
     fn add<S: Source, K: Sink>(
         &mut self,
         text: Bytes,
@@ -132,9 +148,11 @@ impl Serving {
         sink: &mut K,
     ) -> Result<Item, Status>
         ensures serves { ServesItem (items.Add text) result self.old self.new
-            (streams (S.left source.old) (K.held sink.old) (S.faults source.old)) (streams (S.left source.new) (K.held sink.new) (S.faults source.new)) }
+            (streams (S.left source.old) (K.held sink.old) (S.faults source.old))
+            (streams (S.left source.new) (K.held sink.new) (S.faults source.new)) }
         ensures kept { OnOk result (Keeps self.old.journal.changes self.new.journal.changes) }
-        ensures write_fault { result ≡ Err Status.WriteFault → Rose (K.faults sink.old) (K.faults sink.new) }
+        ensures write_fault { result ≡ Err Status.WriteFault →
+            Rose (K.faults sink.old) (K.faults sink.new) }
         ensures source_counts { S.faults source.old ≤ S.faults source.new }
         ensures sink_counts { K.faults sink.old ≤ K.faults sink.new }
     {
@@ -142,7 +160,7 @@ impl Serving {
         self.reply(line, source, sink)
     }
 
-    /// Drops the filter whose id a text names, and takes the next item.
+    // Drops the filter whose id a text names, and takes the next item.
     fn remove<S: Source, K: Sink>(
         &mut self,
         text: Bytes,
@@ -150,9 +168,11 @@ impl Serving {
         sink: &mut K,
     ) -> Result<Item, Status>
         ensures serves { ServesItem (items.Remove text) result self.old self.new
-            (streams (S.left source.old) (K.held sink.old) (S.faults source.old)) (streams (S.left source.new) (K.held sink.new) (S.faults source.new)) }
+            (streams (S.left source.old) (K.held sink.old) (S.faults source.old))
+            (streams (S.left source.new) (K.held sink.new) (S.faults source.new)) }
         ensures kept { OnOk result (Keeps self.old.journal.changes self.new.journal.changes) }
-        ensures write_fault { result ≡ Err Status.WriteFault → Rose (K.faults sink.old) (K.faults sink.new) }
+        ensures write_fault { result ≡ Err Status.WriteFault →
+            Rose (K.faults sink.old) (K.faults sink.new) }
         ensures source_counts { S.faults source.old ≤ S.faults source.new }
         ensures sink_counts { K.faults sink.old ≤ K.faults sink.new }
     {
@@ -160,8 +180,8 @@ impl Serving {
         self.reply(line, source, sink)
     }
 
-    /// Puts the filter that a text writes in the place of the one whose id a name is, and takes the
-    /// next item.
+    // Puts the filter that a text writes in the place of the one whose id a name is, and takes the
+    // next item.
     fn replace<S: Source, K: Sink>(
         &mut self,
         name: Bytes,
@@ -170,9 +190,11 @@ impl Serving {
         sink: &mut K,
     ) -> Result<Item, Status>
         ensures serves { ServesItem (items.Replace name text) result self.old self.new
-            (streams (S.left source.old) (K.held sink.old) (S.faults source.old)) (streams (S.left source.new) (K.held sink.new) (S.faults source.new)) }
+            (streams (S.left source.old) (K.held sink.old) (S.faults source.old))
+            (streams (S.left source.new) (K.held sink.new) (S.faults source.new)) }
         ensures kept { OnOk result (Keeps self.old.journal.changes self.new.journal.changes) }
-        ensures write_fault { result ≡ Err Status.WriteFault → Rose (K.faults sink.old) (K.faults sink.new) }
+        ensures write_fault { result ≡ Err Status.WriteFault →
+            Rose (K.faults sink.old) (K.faults sink.new) }
         ensures source_counts { S.faults source.old ≤ S.faults source.new }
         ensures sink_counts { K.faults sink.old ≤ K.faults sink.new }
     {
@@ -185,8 +207,8 @@ impl Serving {
         self.reply(line, source, sink)
     }
 
-    /// Filters a document and those that follow it with one machine, up to the next change that is
-    /// accepted.
+    // Filters a document and those that follow it with one machine, up to the next change that is
+    // accepted.
     fn filter<S: Source, K: Sink>(
         &mut self,
         doc: Doc,
@@ -194,8 +216,10 @@ impl Serving {
         sink: &mut K,
     ) -> Result<Item, Status>
         ensures serves { ServesItem (items.Document doc) result self.old self.new
-            (streams (S.left source.old) (K.held sink.old) (S.faults source.old)) (streams (S.left source.new) (K.held sink.new) (S.faults source.new)) }
-        ensures write_fault { result ≡ Err Status.WriteFault → Rose (K.faults sink.old) (K.faults sink.new) }
+            (streams (S.left source.old) (K.held sink.old) (S.faults source.old))
+            (streams (S.left source.new) (K.held sink.new) (S.faults source.new)) }
+        ensures write_fault { result ≡ Err Status.WriteFault →
+            Rose (K.faults sink.old) (K.faults sink.new) }
         ensures source_counts { S.faults source.old ≤ S.faults source.new }
         ensures sink_counts { K.faults sink.old ≤ K.faults sink.new }
     {
@@ -208,8 +232,8 @@ impl Serving {
         self.filter_by(&mut machine, doc, source, sink)
     }
 
-    /// Answers a document and the items that follow it, so many at most, with the machine of the
-    /// live filters, up to the next change that is accepted. A refused one leaves the machine warm.
+    // Answers a document and the items that follow it, so many at most, with the machine of the
+    // live filters, up to the next change that is accepted. A refused one leaves the machine warm.
     fn filter_by<S: Source, K: Sink>(
         &mut self,
         machine: &mut Machine,
@@ -219,8 +243,10 @@ impl Serving {
     ) -> Result<Item, Status>
         requires ready { IsReady machine.old self.old.journal.changes }
         ensures serves { ServesItem (items.Document doc) result self.old self.new
-            (streams (S.left source.old) (K.held sink.old) (S.faults source.old)) (streams (S.left source.new) (K.held sink.new) (S.faults source.new)) }
-        ensures write_fault { result ≡ Err Status.WriteFault → Rose (K.faults sink.old) (K.faults sink.new) }
+            (streams (S.left source.old) (K.held sink.old) (S.faults source.old))
+            (streams (S.left source.new) (K.held sink.new) (S.faults source.new)) }
+        ensures write_fault { result ≡ Err Status.WriteFault →
+            Rose (K.faults sink.old) (K.faults sink.new) }
         ensures source_counts { S.faults source.old ≤ S.faults source.new }
         ensures sink_counts { K.faults sink.old ≤ K.faults sink.new }
     {
@@ -235,7 +261,7 @@ impl Serving {
         Ok(item)
     }
 
-    /// Answers an item, a document with the machine of the live filters, and takes the next one.
+    // Answers an item, a document with the machine of the live filters, and takes the next one.
     fn serve_by<S: Source, K: Sink>(
         &mut self,
         machine: &mut Machine,
@@ -245,10 +271,12 @@ impl Serving {
     ) -> Result<Item, Status>
         requires ready { IsReady machine.old self.old.journal.changes }
         ensures serves { ServesItem item result self.old self.new
-            (streams (S.left source.old) (K.held sink.old) (S.faults source.old)) (streams (S.left source.new) (K.held sink.new) (S.faults source.new)) }
+            (streams (S.left source.old) (K.held sink.old) (S.faults source.old))
+            (streams (S.left source.new) (K.held sink.new) (S.faults source.new)) }
         ensures ready { OnOk result (StaysReady machine.old machine.new) }
         ensures kept { OnOk result (Keeps self.old.journal.changes self.new.journal.changes) }
-        ensures write_fault { result ≡ Err Status.WriteFault → Rose (K.faults sink.old) (K.faults sink.new) }
+        ensures write_fault { result ≡ Err Status.WriteFault →
+            Rose (K.faults sink.old) (K.faults sink.new) }
         ensures source_counts { S.faults source.old ≤ S.faults source.new }
         ensures sink_counts { K.faults sink.old ≤ K.faults sink.new }
     {
@@ -260,7 +288,7 @@ impl Serving {
         }
     }
 
-    /// Filters one document, and takes the next item.
+    // Filters one document, and takes the next item.
     fn filter_one<S: Source, K: Sink>(
         &mut self,
         machine: &mut Machine,
@@ -270,10 +298,12 @@ impl Serving {
     ) -> Result<Item, Status>
         requires ready { IsReady machine.old self.old.journal.changes }
         ensures serves { ServesItem (items.Document doc.now) result self.old self.new
-            (streams (S.left source.old) (K.held sink.old) (S.faults source.old)) (streams (S.left source.new) (K.held sink.new) (S.faults source.new)) }
+            (streams (S.left source.old) (K.held sink.old) (S.faults source.old))
+            (streams (S.left source.new) (K.held sink.new) (S.faults source.new)) }
         ensures ready { OnOk result (StaysReady machine.old machine.new) }
         ensures journal { self.new.journal ≡ self.old.journal }
-        ensures write_fault { result ≡ Err Status.WriteFault → Rose (K.faults sink.old) (K.faults sink.new) }
+        ensures write_fault { result ≡ Err Status.WriteFault →
+            Rose (K.faults sink.old) (K.faults sink.new) }
         ensures source_counts { S.faults source.old ≤ S.faults source.new }
         ensures sink_counts { K.faults sink.old ≤ K.faults sink.new }
     {
@@ -281,10 +311,12 @@ impl Serving {
         self.reply(line, source, sink)
     }
 
-    /// The line for a document.
+    // The line for a document.
     fn line_of(&self, machine: &mut Machine, doc: &Doc) -> Result<OutLine, AllocError>
         requires ready { IsReady machine.old self.now.journal.changes }
-        ensures line { (root : Root) → IsOf doc.now root → IfOk result (λ line. Answered (Showing root) self.now.journal.changes self.now.journal.changes line) }
+        ensures line { (root : Root) → IsOf doc.now root →
+            IfOk result (λ line. Answered (Showing root) self.now.journal.changes
+            self.now.journal.changes line) }
         ensures ready { OnOk result (StaysReady machine.old machine.new) }
     {
         let ids = ids_on(machine, doc)?;
@@ -294,9 +326,10 @@ impl Serving {
         })
     }
 
-    /// The program of the live filters.
+    // The program of the live filters.
     fn program(&self) -> Result<Arc<Program>, AllocError>
-        ensures compiled { IfOk result (λ program. IsCompiled (arc_value program) self.now.journal.changes) }
+        ensures compiled { IfOk result (λ program. IsCompiled (arc_value program)
+            self.now.journal.changes) }
     {
         // The history is legal, so the ids rise and the filters are small enough together.
         let _version = self.journal.version();
@@ -306,8 +339,8 @@ impl Serving {
         Ok(Arc::new(self.alloc, program)?)
     }
 
-    /// Says the line for the item that was taken last, if there is memory for one, and takes the
-    /// next item.
+    // Says the line for the item that was taken last, if there is memory for one, and takes the
+    // next item.
     fn reply<S: Source, K: Sink>(
         &mut self,
         line: Result<OutLine, AllocError>,
@@ -315,10 +348,12 @@ impl Serving {
         sink: &mut K,
     ) -> Result<Item, Status>
         ensures replies { Replies line result self.old self.new
-            (streams (S.left source.old) (K.held sink.old) (S.faults source.old)) (streams (S.left source.new) (K.held sink.new) (S.faults source.new)) }
+            (streams (S.left source.old) (K.held sink.old) (S.faults source.old))
+            (streams (S.left source.new) (K.held sink.new) (S.faults source.new)) }
         ensures spoken { OnOk result (IsOk line) }
         ensures journal { self.new.journal ≡ self.old.journal }
-        ensures write_fault { result ≡ Err Status.WriteFault → Rose (K.faults sink.old) (K.faults sink.new) }
+        ensures write_fault { result ≡ Err Status.WriteFault →
+            Rose (K.faults sink.old) (K.faults sink.new) }
         ensures source_counts { S.faults source.old ≤ S.faults source.new }
         ensures sink_counts { K.faults sink.old ≤ K.faults sink.new }
     {
@@ -328,7 +363,7 @@ impl Serving {
         }
     }
 
-    /// Says the line for the item that was taken last, if there is memory for one.
+    // Says the line for the item that was taken last, if there is memory for one.
     fn say<K: Sink>(
         &mut self,
         line: Result<OutLine, AllocError>,
@@ -337,7 +372,8 @@ impl Serving {
         ensures says { SaysLine line result self.old self.new (K.held sink.old) (K.held sink.new) }
         ensures spoken { OnOk result (IsOk line) }
         ensures journal { self.new.journal ≡ self.old.journal }
-        ensures write_fault { result ≡ Err Status.WriteFault → Rose (K.faults sink.old) (K.faults sink.new) }
+        ensures write_fault { result ≡ Err Status.WriteFault →
+            Rose (K.faults sink.old) (K.faults sink.new) }
         ensures sink_counts { K.faults sink.old ≤ K.faults sink.new }
     {
         match line {
@@ -346,12 +382,14 @@ impl Serving {
         }
     }
 
-    /// Takes the next item. The source is read only where what was read of it holds none.
+    // Takes the next item. The source is read only where what was read of it holds none.
     fn take<S: Source, K: Sink>(&mut self, source: &mut S, sink: &mut K) -> Result<Item, Status>
         ensures takes { TakesNext result self.old self.new
-            (streams (S.left source.old) (K.held sink.old) (S.faults source.old)) (streams (S.left source.new) (K.held sink.new) (S.faults source.new)) }
+            (streams (S.left source.old) (K.held sink.old) (S.faults source.old))
+            (streams (S.left source.new) (K.held sink.new) (S.faults source.new)) }
         ensures journal { self.new.journal ≡ self.old.journal }
-        ensures write_fault { result ≡ Err Status.WriteFault → Rose (K.faults sink.old) (K.faults sink.new) }
+        ensures write_fault { result ≡ Err Status.WriteFault →
+            Rose (K.faults sink.old) (K.faults sink.new) }
         ensures source_counts { S.faults source.old ≤ S.faults source.new }
         ensures sink_counts { K.faults sink.old ≤ K.faults sink.new }
     {
@@ -361,13 +399,15 @@ impl Serving {
         }
     }
 
-    /// Reads on to the next item. What waits is written before, so that a reader of the lines has
-    /// seen all that are decided when the run waits for its input.
+    // Reads on to the next item. What waits is written before, so that a reader of the lines has
+    // seen all that are decided when the run waits for its input.
     fn read_on<S: Source, K: Sink>(&mut self, source: &mut S, sink: &mut K) -> Result<Item, Status>
         ensures takes { TakesNext result self.old self.new
-            (streams (S.left source.old) (K.held sink.old) (S.faults source.old)) (streams (S.left source.new) (K.held sink.new) (S.faults source.new)) }
+            (streams (S.left source.old) (K.held sink.old) (S.faults source.old))
+            (streams (S.left source.new) (K.held sink.new) (S.faults source.new)) }
         ensures journal { self.new.journal ≡ self.old.journal }
-        ensures write_fault { result ≡ Err Status.WriteFault → Rose (K.faults sink.old) (K.faults sink.new) }
+        ensures write_fault { result ≡ Err Status.WriteFault →
+            Rose (K.faults sink.old) (K.faults sink.new) }
         ensures source_counts { S.faults source.old ≤ S.faults source.new }
         ensures sink_counts { K.faults sink.old ≤ K.faults sink.new }
     {
@@ -380,11 +420,12 @@ impl Serving {
         }
     }
 
-    /// Takes up what the feed gives next: an item, or the end of the run.
+    // Takes up what the feed gives next: an item, or the end of the run.
     fn take_up<K: Sink>(&mut self, found: Taken, sink: &mut K) -> Result<Item, Status>
         ensures takes { TakesUp found result self.old self.new (K.held sink.old) (K.held sink.new) }
         ensures journal { self.new.journal ≡ self.old.journal }
-        ensures write_fault { result ≡ Err Status.WriteFault → Rose (K.faults sink.old) (K.faults sink.new) }
+        ensures write_fault { result ≡ Err Status.WriteFault →
+            Rose (K.faults sink.old) (K.faults sink.new) }
         ensures sink_counts { K.faults sink.old ≤ K.faults sink.new }
     {
         match found {

@@ -25,9 +25,12 @@ struct Answer {
 /// Writes the printed form of the filter, or the line of its fault.
 pub fn show_filter<K: Sink>(alloc: Global, filter: &[u8], sink: &mut K) -> Status
     ensures ends { IsTrue (is_finished result || is_cut_short result) }
-    ensures output { IsTrue (is_finished result) → (left : Option (List ℕ)) → Shown filter.now left left (K.held sink.old) (K.held sink.new) result }
-    ensures front { IsTrue (is_cut_short result) → (left : Option (List ℕ)) → WritesFront (Shows filter.now) left (K.held sink.old) (K.held sink.new) }
-    ensures write_fault { result ≡ Status.WriteFault → Rose (K.faults sink.old) (K.faults sink.new) }
+    ensures output { IsTrue (is_finished result) → (left : Option (List ℕ)) →
+        Shown filter.now left left (K.held sink.old) (K.held sink.new) result }
+    ensures front { IsTrue (is_cut_short result) → (left : Option (List ℕ)) →
+        WritesFront (Shows filter.now) left (K.held sink.old) (K.held sink.new) }
+    ensures write_fault { result ≡ Status.WriteFault →
+        Rose (K.faults sink.old) (K.faults sink.new) }
     ensures sink_counts { K.faults sink.old ≤ K.faults sink.new }
 {
     match answer_to(alloc, filter) {
@@ -36,7 +39,7 @@ pub fn show_filter<K: Sink>(alloc: Global, filter: &[u8], sink: &mut K) -> Statu
     }
 }
 
-/// What is written for a filter's text. Its only failure is want of memory.
+// What is written for a filter's text. Its only failure is want of memory.
 fn answer_to(alloc: Global, filter: &[u8]) -> Result<Answer, AllocError>
     ensures out { IfOk result (λ answer. OutShow filter.now answer.text answer.status) }
     ensures finished { IfOk result (λ answer. IsTrue (is_finished answer.status)) }
@@ -47,9 +50,10 @@ fn answer_to(alloc: Global, filter: &[u8]) -> Result<Answer, AllocError>
     }
 }
 
-/// The printed form of a filter.
+// The printed form of a filter.
 fn printed(alloc: Global, filter: &Filter) -> Result<Answer, AllocError>
-    ensures out { IfOk result (λ answer. ShowsPrinted (way_of filter.now) answer.text answer.status) }
+    ensures out { IfOk result (λ answer. ShowsPrinted (way_of filter.now) answer.text
+        answer.status) }
     ensures finished { IfOk result (λ answer. IsTrue (is_finished answer.status)) }
 {
     let text = print(alloc, filter)?;
@@ -59,7 +63,7 @@ fn printed(alloc: Global, filter: &Filter) -> Result<Answer, AllocError>
     })
 }
 
-/// The line of a filter's fault.
+// The line of a filter's fault.
 fn refused(alloc: Global, fault: ParseFault) -> Result<Answer, AllocError>
     ensures out { IfOk result (λ answer. ShowsRefusal fault answer.text answer.status) }
     ensures finished { IfOk result (λ answer. IsTrue (is_finished answer.status)) }
@@ -73,7 +77,7 @@ fn refused(alloc: Global, fault: ParseFault) -> Result<Answer, AllocError>
     }
 }
 
-/// The text and a line feed behind it.
+// The text and a line feed behind it.
 fn with_line_feed(alloc: Global, text: &Bytes) -> Result<Bytes, AllocError>
     ensures { IfOk result (λ line. line ≡ text.now ++ 10 ∷ []) }
 {

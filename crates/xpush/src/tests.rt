@@ -412,7 +412,7 @@ fn words_in_no_form_are_usage(rt: HostRuntime) -> Result<(), Fail> {
     Ok(())
 }
 
-/// Each text as often as its number says.
+// Each text as often as its number says.
 fn repeated(alloc: Global, parts: &[(&[u8], usize)]) -> Result<Bytes, AllocError> {
     let mut document = Vec::new(alloc);
     for (text, count) in parts {
@@ -423,7 +423,7 @@ fn repeated(alloc: Global, parts: &[(&[u8], usize)]) -> Result<Bytes, AllocError
     Ok(Bytes::from_vec(document))
 }
 
-/// The text that `match` writes for a filter and a document.
+// The text that `match` writes for a filter and a document.
 fn answer(alloc: Global, filter: &str, document: Bytes) -> Result<MemSink, AllocError> {
     let words = strings(alloc, &["match", filter])?;
     let mut sink = MemSink::new(alloc);
@@ -459,7 +459,7 @@ fn documents_at_their_limits(rt: HostRuntime) -> Result<(), Fail> {
     Ok(())
 }
 
-/// `//b[@k]` would need a line for the count, one for `a`, and two for each `b`.
+// `//b[@k]` would need a line for the count, one for `a`, and two for each `b`.
 #[test]
 fn too_many_nodes_are_no_proof(rt: HostRuntime) -> Result<(), Fail> {
     let alloc = rt.alloc();
@@ -477,7 +477,7 @@ fn too_many_nodes_are_no_proof(rt: HostRuntime) -> Result<(), Fail> {
     Ok(())
 }
 
-/// A source whose call behind the first fails gives nothing to write, whatever the first gave.
+// A source whose call behind the first fails gives nothing to write, whatever the first gave.
 #[test]
 fn a_read_fault_leaves_nothing_explained(rt: HostRuntime) -> Result<(), Fail> {
     let alloc = rt.alloc();

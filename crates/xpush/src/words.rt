@@ -75,7 +75,7 @@ pub fn command_of(alloc: Global, words: &[String]) -> Result<Command<'_>, Option
     }
 }
 
-/// The command, if there is one.
+// The command, if there is one.
 fn or_usage(command: Option<Command<'_>>) -> Result<Command<'_>, OptionsError>
     ensures { IsSaid (option_map form command.entry) false result }
 {
@@ -85,7 +85,7 @@ fn or_usage(command: Option<Command<'_>>) -> Result<Command<'_>, OptionsError>
     }
 }
 
-/// The command of this name on the one filter that the words are.
+// The command of this name on the one filter that the words are.
 fn filter_command<'a>(name: &str, words: &'a [String]) -> Option<Command<'a>>
     ensures { option_map form result ≡ filter_form name.now (texts words.now) }
 {
@@ -106,7 +106,7 @@ fn filter_command<'a>(name: &str, words: &'a [String]) -> Option<Command<'a>>
     }
 }
 
-/// The command `make` with the options that the words are.
+// The command `make` with the options that the words are.
 fn make_command(alloc: Global, words: &[String]) -> Result<Command<'_>, OptionsError>
     ensures { IsSaid (make_form (texts words.now)) true result }
 {
@@ -124,7 +124,7 @@ fn make_command(alloc: Global, words: &[String]) -> Result<Command<'_>, OptionsE
     }
 }
 
-/// The command `serial`, which has no words behind its name.
+// The command `serial`, which has no words behind its name.
 fn serial_command(words: &[String]) -> Option<Command<'_>>
     ensures { option_map form result ≡ serial_form (texts words.now) }
 {

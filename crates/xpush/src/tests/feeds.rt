@@ -111,12 +111,12 @@ const ROWS: [Row; 16] = [
     },
 ];
 
-/// The words of the command.
+// The words of the command.
 fn serial(alloc: Global) -> Result<Vec<String>, AllocError> {
     strings(alloc, &["serial"])
 }
 
-/// The sink behind a run over a feed, and its status.
+// The sink behind a run over a feed, and its status.
 fn answered(alloc: Global, feed: Bytes) -> Result<(MemSink, Status), AllocError> {
     let words = serial(alloc)?;
     let mut source = MemSource::new(feed);
@@ -155,7 +155,7 @@ fn any_pieces_are_answered_alike(rt: HostRuntime) -> Result<(), Fail> {
     Ok(())
 }
 
-/// 250 filters of 2,000 steps, and lines behind them.
+// 250 filters of 2,000 steps, and lines behind them.
 fn large(alloc: Global, behind: &[(&[u8], usize)]) -> Result<Bytes, AllocError> {
     let mut feed = Vec::new(alloc);
     for _ in 0..250 {
@@ -166,7 +166,7 @@ fn large(alloc: Global, behind: &[(&[u8], usize)]) -> Result<Bytes, AllocError> 
     Ok(Bytes::from_vec(feed))
 }
 
-/// What was written behind the last line of the 250 filters, `+250`.
+// What was written behind the last line of the 250 filters, `+250`.
 fn behind_filters(held: &[u8]) -> &[u8] {
     // 9 lines of 3 bytes, 90 of 4 and 151 of 5
     held.get(1_142..).unwrap_or(b"too short")

@@ -54,3 +54,6 @@ loop-init g c =
 
 pub returns-in-Err-clause-failed : goal.returns-in-Err-clause-failed
 returns-in-Err-clause-failed g c = λ e. rose_later _ _ _ c.loop.invariant.never_falls (c.in-Err.ensures.failed (cc))
+
+pub returns-in-Err-clause-not_at_fault : goal.returns-in-Err-clause-not_at_fault
+returns-in-Err-clause-not_at_fault g c = λ e. let run = c.loop.invariant.run in c.in-Err.ensures.not_at_fault _ _ run.0 run.1 (cc)

@@ -1,4 +1,5 @@
 -- The line of a filter's text.
+use Rattle.px_xpath.specs.Whole.{filter}
 use Rattle.xpush.proofs.Lines.{parsed_lines, refused_line, refused_by_source}
 use Rattle.xpush.proofs.Sizes.{text_small}
 use Rattle.xpush.proofs.matching.line_for.Goals as goal
@@ -14,3 +15,9 @@ returns-in-Err-clause-failed g c = λ e. absurd (refused_by_source c.in-Err.faul
 
 pub line_under-requires : goal.line_under-requires
 line_under-requires g c = record { small = text_small _ _ c.in-Ok.ensures }
+
+pub returns-in-Ok-clause-not_at_fault : goal.returns-in-Ok-clause-not_at_fault
+returns-in-Ok-clause-not_at_fault g c = λ e. record { way = filter c.in-Ok.filter; parses = c.in-Ok.ensures; read = c.line_under.ensures.not_at_fault e }
+
+pub returns-in-Err-clause-not_at_fault : goal.returns-in-Err-clause-not_at_fault
+returns-in-Err-clause-not_at_fault g c = λ e. absurd (refused_by_source c.in-Err.fault c.refusal.result c.refusal.ensures e)

@@ -51,7 +51,7 @@ returns-in-Match-clause-whole_items g c = λ e.
     let P : Command → Type 0 = λ command.
     WritesWhole (form command) (g.S.Source.left c.args.source.now) (g.S.Source.left c.match_document.new.source) (g.K.Sink.held c.args.sink.now)
     (g.K.Sink.held c.match_document.new.sink) in
-    subst P (sym c.in-Match.is) (c.match_document.ensures.unwritten e)
+    subst P (sym c.in-Match.is) (c.match_document.ensures.not_at_fault e, c.match_document.ensures.unwritten e)
 
 pub returns-in-Explain-clause-output : goal.returns-in-Explain-clause-output
 returns-in-Explain-clause-output g c = λ t.
@@ -71,7 +71,7 @@ returns-in-Explain-clause-whole_items g c = λ e.
     let P : Command → Type 0 = λ command.
     WritesWhole (form command) (g.S.Source.left c.args.source.now) (g.S.Source.left c.explain_document.new.source) (g.K.Sink.held c.args.sink.now)
     (g.K.Sink.held c.explain_document.new.sink) in
-    subst P (sym c.in-Explain.is) (c.explain_document.ensures.unwritten e)
+    subst P (sym c.in-Explain.is) (c.explain_document.ensures.not_at_fault e, c.explain_document.ensures.unwritten e)
 
 pub returns-in-Verify-clause-output : goal.returns-in-Verify-clause-output
 returns-in-Verify-clause-output g c = λ t.
@@ -91,4 +91,4 @@ returns-in-Verify-clause-whole_items g c = λ e.
     let P : Command → Type 0 = λ command.
     WritesWhole (form command) (g.S.Source.left c.args.source.now) (g.S.Source.left c.verify_proof.new.source) (g.K.Sink.held c.args.sink.now)
     (g.K.Sink.held c.verify_proof.new.sink) in
-    subst P (sym c.in-Verify.is) (c.verify_proof.ensures.unwritten e)
+    subst P (sym c.in-Verify.is) (c.verify_proof.ensures.not_at_fault e, c.verify_proof.ensures.unwritten e)

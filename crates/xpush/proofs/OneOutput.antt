@@ -1,0 +1,18 @@
+-- A form and its input have one output.
+use Rattle.std.proofs.Common.{◌≡◌, ℕ, List, ap, sym, ◌∙◌}
+use Rattle.px_feed.specs.declared.status.Status.{Status}
+use Rattle.px_feed.proofs.OneOutput.{feeds-one, matches-one, shows-one}
+use Rattle.px_document.specs.Findings as findings
+use Rattle.px_document.proofs.OneFinding.{explained-one, verified-one}
+use Rattle.xpush.specs.Answers.{OutOf}
+use Rattle.xpush.specs.Forms.{Form, Explains, Makes, Matches, Serves, Shows, Verifies}
+
+pub out-one : (form : Form) (bytes text other : List ℕ) (status end : Status) → OutOf form bytes text status → OutOf form bytes other end → (text ≡ other) × (status ≡ end)
+out-one (Matches filter) bytes text other status end p q = matches-one filter bytes text other status end p q
+out-one (Shows filter) bytes text other status end p q = shows-one filter text other status end p q
+out-one (Explains filter) bytes text other status end (finding, p, e, s) (second, q, f, t) =
+    let same = explained-one filter bytes finding second p q in (e ∙ ap findings.text same ∙ sym f, s ∙ ap findings.status same ∙ sym t)
+out-one (Verifies filter) bytes text other status end (finding, p, e, s) (second, q, f, t) =
+    let same = verified-one filter bytes finding second p q in (e ∙ ap findings.text same ∙ sym f, s ∙ ap findings.status same ∙ sym t)
+out-one (Makes seed filters documents) bytes text other status end p q = (p.0 ∙ sym q.0, p.1 ∙ sym q.1)
+out-one Serves bytes text other status end p q = feeds-one bytes text other status end p q
