@@ -1,8 +1,8 @@
 -- Each job that was given and taken.
-use Rattle.std.proofs.Common.{◌≡◌, ◌≢◌, ℕ, ◌+◌, ◌<◌, ◌≤◌, ◌⊎◌, Bool, true, false, eqb, List, [], ◌∷◌, refl, sym, ap, ◌∙◌, subst, arith, eq-eqb, ne_eqb, ⊎_elim}
+use Rattle.std.proofs.Common.{◌≡◌, ℕ, ◌<◌, ◌≤◌, eqb, List, [], ◌∷◌, refl, sym, ap, ◌∙◌, subst, arith, eq-eqb, ne_eqb}
 use mathlib.Core.Logic.{dite, inl, inr}
 use native.Mathlib.Decide.{ℕ_discrete}
-use Rattle.px_rule.specs.Banks.{total, one_if}
+use Rattle.px_rule.specs.Banks.{one_if}
 use Rattle.px_line.specs.Lines.{Among}
 use Rattle.px_jobs.specs.declared.job.Job.{Job}
 use Rattle.px_jobs.specs.Jobs.{AllTaken, Rises, AllOver, of_number}

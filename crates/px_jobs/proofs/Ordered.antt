@@ -1,9 +1,9 @@
 -- Jobs of one giver stand in the order in which they were given.
-use Rattle.std.proofs.Common.{◌≡◌, ℕ, zero, suc, ◌<◌, List, [], ◌∷◌, ◌++◌, length, refl, sym, ap, ◌∙◌, subst, append-nil, arith}
+use Rattle.std.proofs.Common.{◌≡◌, ℕ, ◌<◌, List, [], ◌∷◌, ◌++◌, refl, sym, ap, ◌∙◌, subst, append-nil, arith}
 use Rattle.std.specs.Prelude.{Option, Some, None, Result, Ok, Err, MatchResult, MatchOption}
 use Rattle.px_rule.specs.Banks.{total}
 use Rattle.px_line.specs.declared.rule.Known.{Known}
-use Rattle.px_line.specs.Lines.{of, ended_of, Among, Follow, Held, Waits, Learns, Takes, with_given, with_taken}
+use Rattle.px_line.specs.Lines.{of, ended_of, Among, Held, Waits, Learns, Takes, with_given}
 use Rattle.px_jobs.specs.declared.job.Job.{Job}
 use Rattle.px_jobs.specs.Jobs.{AllUnder, AllOver, Rises, WasFull, AllTaken, or_nothing}
 

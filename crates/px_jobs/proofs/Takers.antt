@@ -15,3 +15,11 @@ giver_less line g h n e f =
 
 pub takers_snoc : {L : Type 0} (line : TableId) (ts us : List (Taking L)) (t : Taking L) → us ≡ ts ++ t ∷ [] → AreNew line ts → t ≡ record { line = line; taken = [] } → AreNew line us
 takers_snoc line ts us t e a is = subst (AreNew line) (sym e) (takers_more line ts t a is)
+
+split : {L : Type 0} (line : TableId) (ts : List (Taking L)) (t : Taking L) → AreNew line (ts ++ t ∷ []) → AreNew line ts × (t.line ≡ line)
+split line [] t a = (tt, ap (λ (x : Taking _). x.line) a.0)
+split line (x ∷ xs) t a = let r = split line xs t a.1 in ((a.0, r.0), r.1)
+
+-- the last taker, and those before it
+pub takers_last : {L : Type 0} (line : TableId) (all ts : List (Taking L)) (t : Taking L) → all ≡ ts ++ t ∷ [] → AreNew line all → AreNew line ts × (t.line ≡ line)
+takers_last line all ts t e a = split line ts t (subst (AreNew line) e a)

@@ -1,5 +1,5 @@
 -- A job that was given or not, below the next number.
-use Rattle.std.proofs.Common.{◌≡◌, ℕ, ◌+◌, ◌<◌, ◌≤◌, List, [], ◌∷◌, ◌++◌, subst, sym, arith}
+use Rattle.std.proofs.Common.{◌≡◌, ℕ, ◌+◌, List, [], ◌∷◌, ◌++◌, subst, sym, arith}
 use Rattle.std.specs.Prelude.{Result, Ok, Err, MatchResult}
 use Rattle.px_jobs.specs.declared.job.Job.{Job}
 use Rattle.px_jobs.specs.Jobs.{AllUnder, WasFull}

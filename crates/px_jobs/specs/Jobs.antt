@@ -1,5 +1,5 @@
 -- The jobs of a line: given by one giver, taken by several takers.
-use Rattle.std.specs.Prelude.{◌≡◌, ℕ, ◌+◌, ◌<◌, List, [], ◌∷◌, ◌++◌, length, eqb, Option, Some, None}
+use Rattle.std.specs.Prelude.{◌≡◌, ℕ, ◌<◌, List, [], ◌∷◌, ◌++◌, length, eqb, Option, Some, None}
 use Rattle.atomic_table.specs.Seated.{TableId}
 use Rattle.px_rule.specs.Banks.{total, one_if}
 use Rattle.px_line.specs.Lines.{Among}

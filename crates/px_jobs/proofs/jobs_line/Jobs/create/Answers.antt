@@ -1,6 +1,4 @@
-use Rattle.std.proofs.Common.{◌≡◌, ◌∙◌, ◌+◌, ◌≤◌, ap, subst, sym, arith, rules}
-use Rattle.std.specs.Prelude.{length}
-use Rattle.px_jobs.specs.Jobs.{AreNew}
+use Rattle.std.proofs.Common.{arith, rules}
 use Rattle.px_jobs.proofs.Takers.{giver_less, takers_snoc}
 use Rattle.px_jobs.proofs.jobs_line.Jobs.create.Goals as goal
 
