@@ -1,20 +1,20 @@
 -- From the calls on a bank to what making a step there gives.
-use Rattle.std.proofs.Common.{◌≡◌, ◌≢◌, ◌⊎◌, ℕ, ◌<◌, true, List, take, refl, sym, ap, ◌∙◌, subst, inl, inr, ⊎_elim}
+use Rattle.std.proofs.Common.{◌≡◌, ◌≢◌, ◌⊎◌, ℕ, ◌<◌, true, List, take, refl, sym, ap, ◌∙◌, subst, ⊎_elim}
 use Rattle.px_text.specs.declared.op.Op.{Op}
 use Rattle.px_text.specs.Operands.{Operand, set_of, first_is_set, second_is_set}
 use Rattle.px_rule.specs.declared.shape.Shape.{Shape}
 use Rattle.px_rule.specs.declared.view.View.{View}
 use Rattle.px_rule.specs.declared.view.Found.{Found}
 use Rattle.px_rule.specs.Words.{Small, step_word, key_of, path_of, long_of}
-use Rattle.px_rule.specs.Kept.{Grew, IsAt, Wrote, KeptAt, PassedBy, Gapped, KeyBlocked, Tells, Sound, SetBlocked, SuffixWord}
-use Rattle.px_rule.proofs.Lasting.{grew_trans, kept_grew}
-use Rattle.px_rule.proofs.Since.{since_grew, tells_since, key_since, blocked_since, gap_since, gap_gained}
+use Rattle.px_rule.specs.Kept.{Grew, IsAt, Wrote, KeptAt, Gapped, KeyBlocked, Tells, Sound, SetBlocked, SuffixWord}
+use Rattle.px_rule.proofs.Lasting.{grew_trans}
+use Rattle.px_rule.proofs.Since.{since_grew, tells_since, key_since, gap_since, gap_gained}
 use Rattle.px_rule.proofs.Sounds.{wrote_none, wrote_on}
 use Rattle.px_rule.proofs.Apart.{kept_apart}
 use Rattle.px_afa.specs.Steps.{Step}
 use Rattle.px_intern.specs.Answers as answers
 use Rattle.px_intern.specs.declared.answers.Find.TheVariants.{Found as Found_step}
-use Rattle.px_call.specs.Steps.{Numbered, StepKept, Cause, by_key, WordFor, as_suffix, as_step, Asked}
+use Rattle.px_call.specs.Steps.{by_key, WordFor, as_suffix, as_step, Asked}
 use Rattle.px_call.specs.Outcomes.{Reads, Computes, KeyFull, SetFull}
 use Rattle.px_call.specs.declared.stepping.Outcome.{Outcome}
 use Rattle.px_call.specs.declared.stepping.Outcome.TheVariants as outcome

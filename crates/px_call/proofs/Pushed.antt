@@ -1,5 +1,5 @@
 -- The answer of a push by the sets that were read.
-use Rattle.std.proofs.Common.{◌≡◌, ℕ, List, refl, sym, ap, ◌∙◌, subst}
+use Rattle.std.proofs.Common.{◌≡◌, ℕ, List, sym, ◌∙◌, subst}
 use Rattle.std.specs.Prelude.{Result, Ok, Err, IfOk}
 use Rattle.px_text.specs.declared.op.Op.{Op}
 use Rattle.px_text.specs.declared.op.Op.TheVariants.{Push}

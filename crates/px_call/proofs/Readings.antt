@@ -1,5 +1,5 @@
 -- What the operands of a step stand for lasts while the view grows, and the numbers of a step of the program.
-use Rattle.std.proofs.Common.{◌≡◌, ℕ, ◌+◌, ◌*◌, ◌<◌, ◌≤◌, Bool, true, false, List, take, length, Option, Some, None, refl, sym, ap, ◌∙◌, subst, arith}
+use Rattle.std.proofs.Common.{◌≡◌, ℕ, ◌+◌, ◌*◌, ◌<◌, ◌≤◌, Bool, true, false, List, take, length, Some, None, refl, sym, ap, ◌∙◌, subst, arith}
 use Rattle.px_text.specs.declared.op.Op.{Op}
 use Rattle.px_text.specs.declared.op.Op.TheVariants.{TextClass, NumberClass, Pop, Add, Push, Mask}
 use Rattle.px_text.specs.Operands.{Operand, index, set_of, first_is_set, second_is_set}
@@ -15,15 +15,15 @@ use Rattle.px_rule.specs.declared.view.Stay.{Stay}
 use Rattle.px_rule.specs.Words.{Small}
 use Rattle.px_rule.specs.Table.{bank_in, version_in}
 use Rattle.px_rule.specs.Known.{plain}
-use Rattle.px_rule.specs.Kept.{Grew, Tells, Sound}
+use Rattle.px_rule.specs.Kept.{Grew, Tells}
 use Rattle.px_rule.proofs.Lasting.{grew_trans, stands_grew}
 use Rattle.px_rule.proofs.Since.{since_grew}
-use Rattle.px_intern.specs.Answers.{IsSound, Names}
+use Rattle.px_intern.specs.Answers.{Names}
 use Rattle.px_runner.specs.declared.held.Held.{Held}
 use Rattle.px_runner.specs.declared.held.Held.TheVariants.{Plain, Numbered, Own}
-use Rattle.px_runner.specs.Operands.{IsPlain, IsOperand, AreOfProgram, AreOperands, IsTextClass, IsNumberClass, IsLabel}
+use Rattle.px_runner.specs.Operands.{IsOperand, AreOfProgram, AreOperands}
 use Rattle.px_runner.specs.Remembering.{number_of}
-use Rattle.px_call.specs.Steps.{Numbered as HasNumbers, Asked}
+use Rattle.px_call.specs.Steps.{Asked}
 use Rattle.px_call.specs.Memory.{IsProgramAt}
 use Rattle.px_call.specs.Values.{IsValue, OnlyLooked, IsSetOf, AreRead}
 use Rattle.px_call.proofs.Lasting.{numbered_since}

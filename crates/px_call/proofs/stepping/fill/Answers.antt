@@ -1,4 +1,4 @@
-use Rattle.std.proofs.Common.{◌∙◌, refl, subst}
+use Rattle.std.proofs.Common.{subst}
 use Rattle.px_afa.specs.Steps.{step}
 use Rattle.px_rule.specs.Table.{bank_in, version_in}
 use Rattle.px_rule.proofs.Lasting.{grew_trans}
