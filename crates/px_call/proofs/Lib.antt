@@ -10,3 +10,4 @@ pub mod Readings
 pub mod Pushed
 pub mod Fillings
 pub mod Memories
+pub mod Running

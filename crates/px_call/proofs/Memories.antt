@@ -3,7 +3,6 @@ use Rattle.std.proofs.Common.{◌≡◌, ◌≢◌, ◌⊎◌, ℕ, ◌+◌, ◌
 use Rattle.std.proofs.lemmas.List.{append-nil, length-append}
 use Rattle.px_text.specs.declared.op.Op.{Op}
 use Rattle.px_text.specs.Operands.{Operand, index, set_of}
-use Rattle.px_afa.specs.declared.state.State.{State}
 use Rattle.px_afa.specs.Building.{Automata}
 use Rattle.px_afa.specs.Steps.{Step, step, answer_of}
 use Rattle.px_rule.specs.declared.shape.Shape.{Shape}
@@ -12,7 +11,7 @@ use Rattle.px_rule.specs.declared.view.Stay.{Stay}
 use Rattle.px_rule.specs.Words.{Small}
 use Rattle.px_rule.specs.Table.{TableName, Seated, is_inside, bank_in, version_in}
 use Rattle.px_rule.specs.Kept.{Grew, IsAt, Wrote, Tells, Sound, SetBlocked, SuffixWord}
-use Rattle.px_rule.proofs.Lasting.{grew_same, grew_trans}
+use Rattle.px_rule.proofs.Lasting.{grew_trans}
 use Rattle.px_rule.proofs.Since.{since_grew, blocked_since}
 use Rattle.px_intern.specs.Answers.{IsSound, Names}
 use Rattle.px_runner.specs.declared.held.Held.{Held}
@@ -23,10 +22,10 @@ use Rattle.px_runner.specs.Memos.{Keeps, Advances, Makes}
 use Rattle.px_call.specs.declared.tally.Tally.{Tally}
 use Rattle.px_call.specs.declared.stepping.Outcome.{Outcome}
 use Rattle.px_call.specs.declared.stepping.Outcome.TheVariants as outcome
-use Rattle.px_call.specs.Steps.{OperandBlocked, Cause, by_first, by_second, WordFor}
+use Rattle.px_call.specs.Steps.{OperandBlocked, Cause, by_first, by_second}
 use Rattle.px_call.specs.Outcomes.{first_full, OneMore}
 use Rattle.px_call.specs.Counted.{Counts}
-use Rattle.px_call.specs.Memory.{Memory, memory, program_of, IsProgramAt, StandsFor, TellsOf}
+use Rattle.px_call.specs.Memory.{Memory, memory, program_of, StandsFor, TellsOf}
 use Rattle.px_call.specs.Values.{IsValue}
 use Rattle.px_call.specs.Making.{IsMade, IsHeld, IsBeside, IsKept, IsTallied, IsBooked}
 use Rattle.px_call.specs.Holding.{IsMemory}
@@ -71,9 +70,12 @@ module _ {E : Type 0} (right : List E → Op → Operand → Operand → List �
   abbrev pub version_of : Seated E → ℕ
   version_of seat = version_in seat.view.stay.place
 
-  -- a fact of the bank that the seat is inside, when it has looked and wrote on
-  later : (P : Shape → ℕ → ℕ → Type 0) (seat seat' : Seated E) → seat'.table ≡ seat.table → Grew seat.view seat'.view → P (shape_of seat) (bank_of seat) (version_of seat) → P (shape_of seat') (bank_of seat') (version_of seat')
+  -- a fact of the bank that the seat is inside, when it has looked and wrote on, and before
+  pub later : (P : Shape → ℕ → ℕ → Type 0) (seat seat' : Seated E) → seat'.table ≡ seat.table → Grew seat.view seat'.view → P (shape_of seat) (bank_of seat) (version_of seat) → P (shape_of seat') (bank_of seat') (version_of seat')
   later P seat seat' e g h = subst (λ (q : TableName × Stay). P q.0.shape (bank_in q.1.place) (version_in q.1.place)) (λ i. (sym e i, sym g.stay i)) h
+
+  pub earlier : (P : Shape → ℕ → ℕ → Type 0) (seat seat' : Seated E) → seat'.table ≡ seat.table → Grew seat.view seat'.view → P (shape_of seat') (bank_of seat') (version_of seat') → P (shape_of seat) (bank_of seat) (version_of seat)
+  earlier P seat seat' e g h = subst (λ (q : TableName × Stay). P q.0.shape (bank_in q.1.place) (version_in q.1.place)) (λ i. (e i, g.stay i)) h
 
   module _ (seat seat' : Seated E) (t t' : Tally) (same : seat'.table ≡ seat.table) (g : Grew seat.view seat'.view) where
     pub stands_on : (t.full ≢ None → t'.full ≢ None) → (held : Held) (x : List ℕ) → StandsFor right (at seat t) held x → StandsFor right (at seat' t') held x

@@ -1,11 +1,13 @@
 -- What a call over a bank has done with the events of a document that it was given.
 use Rattle.std.specs.Prelude.{◌≡◌, ℕ, true, List, [], ◌∷◌, ◌++◌, Option, Some}
 use Rattle.px_text.specs.declared.op.Op.{Op}
+use Rattle.px_text.specs.Nodes.{Root}
 use Rattle.px_text.specs.Operands.{Operand}
 use Rattle.px_reader.specs.declared.event.Event.{Event}
+use Rattle.px_reader.specs.Spelling.{events_of}
 use Rattle.px_afa.specs.Building.{Automata}
 use Rattle.px_afa.specs.Sets.{first_set}
-use Rattle.px_afa.specs.Steps.{Step}
+use Rattle.px_afa.specs.Steps.{Step, run_of}
 use Rattle.px_rule.specs.declared.shape.Shape.{Shape}
 use Rattle.px_rule.specs.declared.view.View.{View}
 use Rattle.px_rule.specs.Table.{Seated, is_inside, bank_in, version_in}
@@ -49,3 +51,17 @@ module _ {E : Type 0} (right : List E → Op → Operand → Operand → List �
     pub grew : Grew began.view seat.view
     pub runs : (runner : Runner) × (call.runner ≡ Some runner) × HasRun program_of (StandsFor right) (memory automata began seat call.tally) runner given
     pub counts : CountsAt began.table.shape (bank_in began.view.stay.place) (version_in began.view.stay.place) automata began.view seat.view call.tally given
+
+  -- the counts of a call that began with this seat, in the bank that it was inside
+  abbrev pub CountsSince : Automata → Seated E → View E → Tally → List Event → Type 0
+  CountsSince automata began v tally given = CountsAt began.table.shape (bank_in began.view.stay.place) (version_in began.view.stay.place) automata began.view v tally given
+
+  -- The runner has taken these events, over a memo for the seat, and the counts are those of their steps
+  pub record IsRunning (automata : Automata) (began seat : Seated E) (tally : Tally) (runner : Runner) (given : List Event) : Type 0 where
+    pub runs : HasRun program_of (StandsFor right) (memory automata began seat tally) runner given
+    pub counts : CountsSince automata began seat.view tally given
+
+  -- the counts of a call over a whole document: its steps are those of the run, in the bank at which the call began
+  abbrev pub CountsOf : Automata → Seated E → View E → Tally → Root → Type 0
+  CountsOf automata began v tally root =
+      Counts right began.table.shape (bank_in began.view.stay.place) (version_in began.view.stay.place) began.view v tally (run_of automata root) (sets_held automata (events_of root))

@@ -31,11 +31,18 @@
 //! for is held by itself. What it tells of steps and sets is the relation above, since the seat
 //! that an [`Entry`] names; and on every answer its seat is of the same table, and inside.
 //!
+//! **The call.** A [`BankCall`] takes the events of a document one by one. It keeps the runner and
+//! the counts between two events, and no seat: [`BankCall::begin`], [`BankCall::event`] and
+//! [`BankCall::finish`] borrow the seat, which stays inside the bank, and move it into a memo for
+//! as long as they run. At the end of a document the ids are those of the filters that match, and
+//! the counts are those of the steps of its run, since the seat that the call began with.
+//!
 //! Not said: anything of words that a step wrote which failed for want of memory.
 #![tactic(auto)]
 
 mod bank_memo;
 mod booking;
+mod call;
 mod entry;
 mod law;
 mod laws;
@@ -44,6 +51,7 @@ mod stepping;
 mod tally;
 
 pub use bank_memo::BankMemo;
+pub use call::BankCall;
 pub use entry::Entry;
 pub use law::ProgramLaw;
 pub use laws::{
