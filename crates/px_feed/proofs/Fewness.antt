@@ -5,8 +5,8 @@ use Rattle.std.proofs.lemmas.List.{take_all}
 use Rattle.std.proofs.lemmas.List.Sums.{sum_by-append, sum_by-cons}
 use Rattle.px_reader.specs.Lines.{without_end}
 use Rattle.px_feed.specs.declared.line.FeedKind.TheVariants.{FeedLong}
-use Rattle.px_feed.specs.declared.feed.Items.{Items}
 use Rattle.px_feed.specs.Items.{Item, Stop, Outside, Skips, Brings, Starts, outside, ShowsOutside, ShowsInside, HasNone, Gives, no_lines, skips, brings, outside_faulty, document, inside_faulty, truncated, bytes_in, most_bytes}
+use Rattle.px_feed.specs.Progress.{Progress}
 use Rattle.px_feed.specs.Taking.{HasTaken}
 use Rattle.px_feed.proofs.Leading.{ended}
 
@@ -75,7 +75,7 @@ at_most : (m n : ℕ) → 0 + n ≤ m → n ≤ m
 at_most m n l = omega arith
 
 -- a feed gives no more items than it may have bytes
-pub few-items : (items : Items) (left : Option (List ℕ)) (bytes : List ℕ) (given : List Item) → HasTaken items left bytes given → length given ≤ most_bytes
+pub few-items : (items : Progress) (left : Option (List ℕ)) (bytes : List ℕ) (given : List Item) → HasTaken items left bytes given → length given ≤ most_bytes
 few-items items left bytes given (inl far) =
     let s = far.joined.cut.standing in at_most most_bytes (length given) (few_items (ended s.before given s.stands.leads) (omega arith))
 few-items items left bytes given (inr (done, spent, has)) = at_most most_bytes (length given) (few_items has (omega arith))

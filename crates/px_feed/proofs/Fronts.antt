@@ -4,9 +4,7 @@ use Rattle.std.proofs.lemmas.Grind.{flat_map-append}
 use Rattle.px_io.specs.Flows.{IsSpent}
 use Rattle.px_reader.specs.Lines.{lines_of}
 use Rattle.px_reader.proofs.LineCuts.{lines_whole}
-use Rattle.px_feed.specs.declared.cutter.Cutter.{Cutter}
-use Rattle.px_feed.specs.declared.feed.Ending.TheVariants.{End, Fault}
-use Rattle.px_feed.specs.declared.feed.Items.{Items}
+use Rattle.px_feed.specs.declared.ending.Ending.TheVariants.{End, Fault}
 use Rattle.px_feed.specs.declared.line.FeedFault.{FeedFault}
 use Rattle.px_feed.specs.declared.line.OutLine.{OutLine}
 use Rattle.px_feed.specs.declared.status.Status.{Status}
@@ -14,7 +12,8 @@ use Rattle.px_feed.specs.Items.{Item, Stop, AtEnd, AtFault, HasItems, Gives}
 use Rattle.px_feed.specs.Joining.{Joined}
 use Rattle.px_feed.specs.Lines.{line_text}
 use Rattle.px_feed.specs.Outputs.{AreLines, Out, lines_for, history_behind, lines_at, text_of, status_of}
-use Rattle.px_feed.specs.Taking.{HasTaken, Ends, unread}
+use Rattle.px_feed.specs.Progress.{Progress}
+use Rattle.px_feed.specs.Taking.{HasTaken, Ends}
 use Rattle.px_feed.proofs.Replies.{asks-joined, lines-joined}
 use Rattle.px_feed.proofs.Total.{gives-some, asks-some, out-of}
 
@@ -24,9 +23,9 @@ spent_rest None rest spent e = absurd (cc)
 spent_rest (Some xs) rest spent e = let same : Some rest ≡ Some [] = sym e ∙ spent in cc
 
 -- the items of bytes that were joined go on, whatever comes behind the bytes
-joined_on : (cutter : Cutter) (kept : List ℕ) (count : ℕ) (bytes rest : List ℕ) (given : List Item) → Joined cutter kept count bytes given →
+joined_on : (document : List ℕ) (number size : ℕ) (kept : List ℕ) (count : ℕ) (bytes rest : List ℕ) (given : List Item) → Joined document number size kept count bytes given →
     (more : List Item) × (stop : Stop) × HasItems (bytes ++ rest) (given ++ more) stop
-joined_on cutter kept count bytes rest given j =
+joined_on document number size kept count bytes rest given j =
     let s = j.cut.standing in
     let tail = j.begun ++ rest in
     let (more, stop, g) = gives-some s.before (lines_of s.inside ++ lines_of tail) in
@@ -37,11 +36,11 @@ joined_on cutter kept count bytes rest given j =
     (more, stop, subst (λ ls. Gives [] ls (given ++ more) stop) (sym same) whole)
 
 -- the items taken so far begin those of all bytes
-pub begins-items : (items : Items) (left : Option (List ℕ)) (bytes rest : List ℕ) (given : List Item) → HasTaken items left bytes given → left ≡ Some rest →
+pub begins-items : (items : Progress) (left : Option (List ℕ)) (bytes rest : List ℕ) (given : List Item) → HasTaken items left bytes given → left ≡ Some rest →
     (more : List Item) × (stop : Stop) × HasItems (bytes ++ rest) (given ++ more) stop
 begins-items items left bytes rest given (inl far) e =
-    let (more, stop, has) = joined_on items.joiner.cutter items.joiner.kept.items items.joiner.begun far.done (unread items ++ rest) given far.joined in
-    let same : bytes ++ rest ≡ far.done ++ (unread items ++ rest) = ap (λ bs. bs ++ rest) far.bytes_are ∙ append_assoc far.done (unread items) rest in
+    let (more, stop, has) = joined_on items.document items.lines items.size items.kept items.begun far.done (items.unread ++ rest) given far.joined in
+    let same : bytes ++ rest ≡ far.done ++ (items.unread ++ rest) = ap (λ bs. bs ++ rest) far.bytes_are ∙ append_assoc far.done items.unread rest in
     (more, stop, subst (λ bs. HasItems bs (given ++ more) stop) (sym same) has)
 begins-items items left bytes rest given (inr (ended, spent, has)) e =
     let same : bytes ++ rest ≡ bytes = ap (λ bs. bytes ++ bs) (spent_rest left rest spent e) ∙ append-nil bytes in
@@ -64,7 +63,7 @@ output_behind bytes given behind lines stop has are =
     (text_of (all ++ lines_at stop), text_of (rest ++ lines_at stop), status_of (all ++ lines_at stop), out-of bytes (given ++ behind) all stop has joined, begins)
 
 -- what was answered begins the output, where items were taken that wait for their answers
-pub begins-output-waiting : (items : Items) (left : Option (List ℕ)) (bytes rest : List ℕ) (given waiting : List Item) (lines : List OutLine) →
+pub begins-output-waiting : (items : Progress) (left : Option (List ℕ)) (bytes rest : List ℕ) (given waiting : List Item) (lines : List OutLine) →
     HasTaken items left bytes (given ++ waiting) → AreLines given lines → left ≡ Some rest →
     (text more : List ℕ) × (status : Status) × Out (bytes ++ rest) text status × (text ≡ text_of lines ++ more)
 begins-output-waiting items left bytes rest given waiting lines taken are e =

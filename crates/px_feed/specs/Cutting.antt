@@ -33,11 +33,15 @@ pub record Standing (document : Recorder) (lines : List (List ℕ)) (given : Lis
   pub lines_are : lines ≡ before ++ lines_of inside
   pub stands : Stands document before inside given
 
+-- So many lines, of so many bytes, have ended and gave these items, and the document of the last of them is recorded.
+pub record Cut (document : List ℕ) (count size : ℕ) (lines : List (List ℕ)) (given : List Item) : Type 0 where
+  pub standing : Standing document lines given
+  pub counts : count ≡ length lines
+  pub sizes : size ≡ bytes_in lines
+
 -- The cutter has taken these lines, which gave these items.
-pub record HasCut (cutter : Cutter) (lines : List (List ℕ)) (given : List Item) : Type 0 where
-  pub standing : Standing cutter.document lines given
-  pub counts : cutter.extent.lines ≡ length lines
-  pub sizes : cutter.extent.bytes ≡ bytes_in lines
+abbrev pub HasCut : Cutter → (lines : List (List ℕ)) → List Item → Type 0
+HasCut cutter lines given = Cut cutter.document cutter.extent.lines cutter.extent.bytes lines given
 
 -- Behind these items the lines have this fault, whatever comes behind them.
 abbrev pub Fails : (lines : List (List ℕ)) → List Item → Failure → Type 0

@@ -1,10 +1,10 @@
 -- The answers that end a feed.
 use Rattle.px_feed.specs.declared.fault.Failure.{Failure}
 use Rattle.px_feed.specs.declared.fault.Failure.TheVariants as failure
-use Rattle.px_feed.specs.declared.feed.Ending.{Ending}
-use Rattle.px_feed.specs.declared.feed.Ending.TheVariants.{End, Fault, ReadFault, Memory}
-use Rattle.px_feed.specs.declared.feed.Taken.{Taken}
-use Rattle.px_feed.specs.declared.feed.Taken.TheVariants as taken
+use Rattle.px_feed.specs.declared.ending.Ending.{Ending}
+use Rattle.px_feed.specs.declared.ending.Ending.TheVariants.{End, Fault, ReadFault, Memory}
+use Rattle.px_feed.specs.declared.ending.Taken.{Taken}
+use Rattle.px_feed.specs.declared.ending.Taken.TheVariants as taken
 
 abbrev pub ending_of : Failure → Ending
 ending_of (failure.Fault fault) = Fault fault

@@ -8,25 +8,29 @@ use Rattle.px_feed.specs.declared.item.Item.{Item as Given}
 use Rattle.px_feed.specs.declared.joiner.Joiner.{Joiner}
 use Rattle.px_feed.specs.declared.joiner.Brought.{Brought as Found}
 use Rattle.px_feed.specs.declared.joiner.Brought.TheVariants as found
-use Rattle.px_feed.specs.Cutting.{HasCut, EndsBy}
+use Rattle.px_feed.specs.Cutting.{Cut, EndsBy}
 use Rattle.px_feed.specs.Effects.{IsItem}
 use Rattle.px_feed.specs.Items.{Item, AtFault, HasItems, most_bytes}
 
--- The bytes have given these items: the cutter has taken their lines, and of the line that has begun, of so many bytes, the first ones are kept.
-pub record Joined (cutter : Cutter) (kept : List ℕ) (count : ℕ) (bytes : List ℕ) (given : List Item) : Type 0 where
+-- The bytes have given these items: their lines are cut, and of the line that has begun, of so many bytes, the first ones are kept.
+pub record Joined (document : List ℕ) (number size : ℕ) (kept : List ℕ) (count : ℕ) (bytes : List ℕ) (given : List Item) : Type 0 where
   pub ended : List ℕ
   pub begun : List ℕ
   pub bytes_are : bytes ≡ ended ++ begun
   pub whole : is_whole ended ≡ true
   pub no_feed : has_no_feed begun ≡ true
-  pub cut : HasCut cutter (lines_of ended) given
+  pub cut : Cut document number size (lines_of ended) given
   pub kept_are : kept ≡ take 1_048_578 begun
   pub count_is : count ≡ length begun
   pub fits : length bytes ≤ most_bytes
 
+-- The same where a cutter has taken the lines.
+abbrev pub TakenBy : Cutter → (kept : List ℕ) → (count : ℕ) → (bytes : List ℕ) → List Item → Type 0
+TakenBy cutter kept count bytes given = Joined cutter.document cutter.extent.lines cutter.extent.bytes kept count bytes given
+
 -- The joiner has taken the bytes, which have given these items.
 abbrev pub HasJoined : Joiner → (bytes : List ℕ) → List Item → Type 0
-HasJoined joiner bytes given = Joined joiner.cutter joiner.kept.items joiner.begun bytes given
+HasJoined joiner bytes given = TakenBy joiner.cutter joiner.kept.items joiner.begun bytes given
 
 -- how many bytes the joiner has taken
 abbrev pub total : Joiner → ℕ

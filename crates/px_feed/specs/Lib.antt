@@ -9,6 +9,8 @@ pub mod Recordings
 pub mod Effects
 pub mod Cutting
 pub mod Joining
+pub mod Progress
+pub mod Progressing
 pub mod Endings
 pub mod Taking
 pub mod Outputs

@@ -1,100 +1,44 @@
 //! The items of a feed, one after the other.
 
-ghost use Rattle.std.specs.Prelude.{◌≡◌, ◌≤◌, IfOk, length};
-ghost use Rattle.px_io.specs.Faults.{Rose};
-ghost use Rattle.px_io.specs.Flows.{GivesNext};
-ghost use Rattle.px_feed.specs.Endings.{ending_of, taken_of};
+ghost use Rattle.std.specs.Prelude.{◌≡◌, ◌≤◌, IfOk};
 
-use crate::fault::Failure;
-use crate::item::Item;
-use crate::joiner::{Brought, Joiner};
-use crate::line::FeedFault;
-use px_io::{ReadAnswer, Source};
+use crate::ending::Taken;
+use crate::intake::Intake;
+use px_io::Source;
 use std::alloc::{AllocError, Global};
-
-/// How many bytes are read at once.
-const PIECE: usize = 65_536;
-
-/// Every read gives a byte at least, and one piece beyond the most bytes of a feed shows that they
-/// are too many, so this many reads find the next item, the end or a fault.
-const MOST_READS: u64 = 1_099_511_693_313;
-
-/// What a feed gives next.
-#[derive(Drop)]
-pub enum Taken {
-    Item(Item),
-    /// The source is at its end, and no item is left.
-    End,
-    /// The first fault of the feed.
-    Fault(FeedFault),
-    /// The source met a fault.
-    ReadFault,
-    Memory,
-}
-
-/// Why a feed gives no further item.
-#[derive(Clone, Copy, Debug, Drop)]
-pub enum Ending {
-    End,
-    Fault(FeedFault),
-    ReadFault,
-    Memory,
-}
-
-impl Ending {
-    fn of(failure: Failure) -> Ending
-        ensures { result ≡ ending_of failure }
-    {
-        match failure {
-            Failure::Fault(fault) => Ending::Fault(fault),
-            Failure::Memory => Ending::Memory,
-        }
-    }
-
-    fn taken(self) -> Taken
-        ensures { result ≡ taken_of self }
-    {
-        match self {
-            Ending::End => Taken::End,
-            Ending::Fault(fault) => Taken::Fault(fault),
-            Ending::ReadFault => Taken::ReadFault,
-            Ending::Memory => Taken::Memory,
-        }
-    }
-}
+use std::marker::Model;
 
 /// The items of a feed, which is read in pieces. No more is held than one document and a piece.
+/// Contracts see how far it has come.
 #[derive(Drop)]
 pub struct Items {
-    joiner: Joiner,
-    /// what was read last
-    piece: Vec<u8>,
-    /// where the bytes of the piece begin and end that are not taken yet
-    at: usize,
-    end: usize,
-    ending: Option<Ending>,
-    ghost ordered: { at ≤ end },
-    ghost filled: { end ≤ length piece.items },
-    ghost sized: { length piece.items ≡ 65_536 },
+    intake: Intake,
+}
+
+impl Model for Items {
+    ghost use Rattle.px_feed.specs.Progress.{Progress};
+    ghost use Rattle.px_feed.specs.Progressing.{progress};
+
+    ghost Value = { Progress };
+
+    ghost view = { λ items. progress items.intake };
 }
 
 impl Items {
-    ghost use Rattle.std.specs.Prelude.{◌≡◌, ◌≤◌, ◌<◌, ◌+◌, ◌⊎◌, [], List, ℕ, Option, Some, None, IfOk, length};
+    ghost use Rattle.std.specs.Prelude.{◌≡◌, ◌≤◌, ◌⊎◌, [], List, ℕ, Option, Some, None, IfOk};
     ghost use Rattle.px_io.specs.Faults.{Rose};
+    ghost use Rattle.px_feed.specs.declared.ending.Ending.{Ending};
+    ghost use Rattle.px_feed.specs.declared.ending.Ending.TheVariants as endings;
+    ghost use Rattle.px_feed.specs.Endings.{taken_of};
     ghost use Rattle.px_feed.specs.Items as items;
-    ghost use Rattle.px_feed.specs.Taking.{HasTaken, HasEnded, AnswersSoFar, IsDrained, TakesBy, Refills, FinishesBy, held};
-    ghost use Rattle.px_feed.specs.Joining.{total};
+    ghost use Rattle.px_feed.specs.Taking.{HasTaken, HasEnded, AnswersSoFar, IsDrained, TakesBy, held};
 
     /// Before the first byte. Its only failure is want of memory.
     pub fn new(alloc: Global) -> Result<Items, AllocError>
         ensures { IfOk result (λ items. (left : Option (List ℕ)) → HasTaken items left [] []) }
     {
         Ok(Items {
-            joiner: Joiner::new(alloc),
-            piece: zeros(alloc, PIECE)?,
-            at: 0,
-            end: 0,
-            ending: None,
+            intake: Intake::new(alloc)?,
         })
     }
 
@@ -113,22 +57,9 @@ impl Items {
             HasEnded self.new ending }
         ensures stays { (ending : Ending) → HasEnded self.old ending →
             result ≡ Some (taken_of ending) }
-        ensures failed { result ≡ Some Taken.ReadFault → HasEnded self.old Ending.ReadFault }
+        ensures failed { result ≡ Some Taken.ReadFault → HasEnded self.old endings.ReadFault }
     {
-        if let Some(ending) = self.ending {
-            return Some(ending.taken());
-        }
-        match self.joiner.take(&self.piece.as_slice()[self.at..self.end]) {
-            Brought::Item { used, item } => {
-                self.at += used;
-                Some(Taken::Item(item))
-            }
-            Brought::Nothing => {
-                self.at = self.end;
-                None
-            }
-            Brought::Failed(failure) => Some(self.stop(Ending::of(failure))),
-        }
+        self.intake.ready()
     }
 
     /// The next item, for which the source is read on where it is needed. After every answer but
@@ -142,81 +73,9 @@ impl Items {
             (result ≡ taken_of ending) × (S.left source.new ≡ S.left source.old) }
         ensures never_falls { S.faults source.old ≤ S.faults source.new }
         ensures failed { result ≡ Taken.ReadFault →
-            HasEnded self.old Ending.ReadFault ⊎ Rose (S.faults source.old) (S.faults source.new) }
-    {
-        for _ in 0..MOST_READS {
-            if let Some(taken) = self.ready() {
-                return taken;
-            }
-            if let Some(taken) = self.refill(source) {
-                return taken;
-            }
-        }
-        unreachable!()
-    }
-
-    // Reads the next piece; at the end of the source the last line is taken.
-    fn refill<S: Source>(&mut self, source: &mut S) -> Option<Taken>
-        ensures refills { Refills result self.old self.new (S.left source.old) (S.left source.new) }
-        ensures more { result ≡ None → total self.old.joiner < held self.new }
-        ensures going { result ≡ None → self.new.ending ≡ self.old.ending }
-        ensures stops { (ending : Ending) → result ≡ Some (taken_of ending) →
-            HasEnded self.new ending }
-        ensures never_falls { S.faults source.old ≤ S.faults source.new }
-        ensures failed { result ≡ Some Taken.ReadFault →
+            HasEnded self.old endings.ReadFault ⊎
             Rose (S.faults source.old) (S.faults source.new) }
     {
-        self.at = 0;
-        self.end = 0;
-        match read_into(source, &mut self.piece) {
-            ReadAnswer::Got(count) => {
-                self.end = count;
-                None
-            }
-            ReadAnswer::End => Some(self.finish()),
-            ReadAnswer::Failed => Some(self.stop(Ending::ReadFault)),
-        }
+        self.intake.next(source)
     }
-
-    // Takes the last line.
-    fn finish(&mut self) -> Taken
-        ensures ends { FinishesBy result self.old self.new }
-        ensures stops { (ending : Ending) → result ≡ taken_of ending → HasEnded self.new ending }
-        ensures no_fault { result ≡ Taken.ReadFault → ⊥ }
-    {
-        match self.joiner.finish() {
-            Ok(None) => self.stop(Ending::End),
-            Ok(Some(item)) => {
-                self.ending = Some(Ending::End);
-                Taken::Item(item)
-            }
-            Err(failure) => self.stop(Ending::of(failure)),
-        }
-    }
-
-    // Ends the feed: from now on this is its answer.
-    fn stop(&mut self, ending: Ending) -> Taken
-        ensures answer { result ≡ taken_of ending }
-        ensures stops { (other : Ending) → result ≡ taken_of other → HasEnded self.new other }
-    {
-        self.ending = Some(ending);
-        ending.taken()
-    }
-}
-
-// Reads the next bytes into the front of the piece.
-fn read_into<S: Source>(source: &mut S, piece: &mut Vec<u8>) -> ReadAnswer
-    requires { length piece.old.items ≡ 65_536 }
-    ensures next { GivesNext result piece.new.items (S.left source.old) (S.left source.new) }
-    ensures same { length piece.new.items ≡ length piece.old.items }
-    ensures never_falls { S.faults source.old ≤ S.faults source.new }
-    ensures failed { result ≡ ReadAnswer.Failed → Rose (S.faults source.old) (S.faults source.new) }
-{
-    source.read(piece.as_mut_slice())
-}
-
-fn zeros(alloc: Global, count: usize) -> Result<Vec<u8>, AllocError>
-    ensures { IfOk result (λ zeros. length zeros.items ≡ count) }
-{
-    vec![in alloc; 0; count]
 }

@@ -15,11 +15,13 @@
 #![tactic(auto)]
 
 mod cutter;
+mod ending;
 mod extent;
 mod fault;
 mod feed;
 mod generator;
 mod id;
+mod intake;
 mod item;
 mod joiner;
 mod laws;
@@ -27,7 +29,8 @@ mod line;
 mod outside;
 mod status;
 
-pub use feed::{Items, Taken};
+pub use ending::Taken;
+pub use feed::Items;
 pub use generator::generate;
 pub use id::id_of;
 pub use item::Item;

@@ -1,6 +1,7 @@
 //! A few feeds, read to their ends.
 
-use crate::feed::{Items, Taken};
+use crate::ending::Taken;
+use crate::feed::Items;
 use crate::item::Item;
 use crate::line::{FeedFault, FeedKind};
 use px_io::{FailSource, MemSource};

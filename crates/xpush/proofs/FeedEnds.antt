@@ -4,7 +4,7 @@ use Rattle.std.specs.List.{list_any}
 use Rattle.std.proofs.lemmas.List.Folds.{list_any-append}
 use Rattle.px_io.specs.Faults.{Rose}
 use Rattle.px_io.specs.Flows.{IsSpent}
-use Rattle.px_feed.specs.declared.feed.Taken.TheVariants as taken
+use Rattle.px_feed.specs.declared.ending.Taken.TheVariants as taken
 use Rattle.px_feed.specs.declared.line.FeedFault.{FeedFault}
 use Rattle.px_feed.specs.declared.line.OutLine.{OutLine}
 use Rattle.px_feed.specs.declared.line.OutLine.TheVariants.{Faulty}

@@ -6,7 +6,7 @@ use Rattle.px_feed.specs.declared.feed.Items.{Items}
 use Rattle.px_feed.specs.declared.line.FeedFault.{FeedFault}
 use Rattle.px_feed.specs.declared.line.OutLine.{OutLine}
 use Rattle.px_feed.specs.declared.line.OutLine.TheVariants.{Faulty}
-use Rattle.px_feed.specs.declared.feed.Ending.TheVariants as ending
+use Rattle.px_feed.specs.declared.ending.Ending.TheVariants as ending
 use Rattle.px_feed.specs.declared.status.Status.{Status}
 use Rattle.px_feed.specs.Items.{Item}
 use Rattle.px_feed.specs.Outputs.{Ask, AllAsk, AreLines, Out, lines_for, text_of, status_of}

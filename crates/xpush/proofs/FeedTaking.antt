@@ -3,10 +3,10 @@ use Rattle.std.proofs.Common.{◌≡◌, ℕ, ◌+◌, ◌≤◌, ◌⊎◌, Lis
 use Rattle.px_io.specs.Faults.{Rose}
 use Rattle.px_io.proofs.Counts.{rose_later}
 use Rattle.px_io.proofs.Flowing.{takes_nothing, takes_both}
-use Rattle.px_feed.specs.declared.feed.Ending.TheVariants as ending
+use Rattle.px_feed.specs.declared.ending.Ending.TheVariants as ending
 use Rattle.px_feed.specs.declared.feed.Items.{Items}
-use Rattle.px_feed.specs.declared.feed.Taken.{Taken}
-use Rattle.px_feed.specs.declared.feed.Taken.TheVariants as taken
+use Rattle.px_feed.specs.declared.ending.Taken.{Taken}
+use Rattle.px_feed.specs.declared.ending.Taken.TheVariants as taken
 use Rattle.px_feed.specs.declared.item.Item.{Item as Given}
 use Rattle.px_feed.specs.declared.status.Status.{Status}
 use Rattle.px_feed.specs.declared.status.Status.TheVariants.{Memory}

@@ -4,8 +4,8 @@ use Rattle.px_io.specs.Faults.{Rose}
 use Rattle.px_io.specs.Flows.{TakesFrom}
 use Rattle.px_afa.specs.Building.{Automata, automata}
 use Rattle.px_feed.specs.declared.feed.Items.{Items}
-use Rattle.px_feed.specs.declared.feed.Taken.{Taken}
-use Rattle.px_feed.specs.declared.feed.Taken.TheVariants as taken
+use Rattle.px_feed.specs.declared.ending.Taken.{Taken}
+use Rattle.px_feed.specs.declared.ending.Taken.TheVariants as taken
 use Rattle.px_feed.specs.declared.item.Item.{Item as Given}
 use Rattle.px_feed.specs.declared.line.OutLine.{OutLine}
 use Rattle.px_feed.specs.declared.status.Status.{Status}

@@ -11,9 +11,9 @@ returns-then-count-room-clause-joins c = λ bytes given j.
     let old = c.args.self.now in
     let part = c.args.part.now in
     let some : 0 < length (j.begun ++ part) = some_more (c.room.result - old.begun) j.begun part c.if-count-room.true in
-    subst (λ bs. FailsOn bs given c.too_much.result) (sym (bytes_with old.cutter old.kept.items old.begun bytes part given j))
+    subst (λ bs. FailsOn bs given c.too_much.result) (sym (bytes_with _ _ _ old.kept.items old.begun bytes part given j))
     (fails_begun j.ended (j.begun ++ part) given c.too_much.result j.whole (no_feeds j.begun part j.no_feed c.requires) some
-    (λ more. c.too_much.ensures _ given ((j.begun ++ part) ++ more) j.cut (part_long old.cutter old.kept.items old.begun bytes part more given c.room.result j c.room.ensures c.if-count-room.true)))
+    (λ more. c.too_much.ensures _ given ((j.begun ++ part) ++ more) j.cut (part_long _ _ _ old.kept.items old.begun bytes part more given c.room.result j c.room.ensures c.if-count-room.true)))
 
 pub returns-in_err-keep-clause-joins : goal.returns-in_err-keep-clause-joins
 returns-in_err-keep-clause-joins c = λ bytes given j.
@@ -35,5 +35,5 @@ pub returns-clause-joins : goal.returns-clause-joins
 returns-clause-joins c = λ bytes given j.
     let old = c.args.self.now in
     let part = c.args.part.now in
-    let fits = part_fits old.cutter old.kept.items old.begun bytes part given c.room.result j c.room.ensures old.within c.if-count-room.false in
-    joins_part old.cutter old.kept.items _ old.begun _ bytes part given j c.requires c.in_ok-keep.ensures.kept refl fits
+    let fits = part_fits _ _ _ old.kept.items old.begun bytes part given c.room.result j c.room.ensures old.within c.if-count-room.false in
+    joins_part _ _ _ old.kept.items _ old.begun _ bytes part given j c.requires c.in_ok-keep.ensures.kept refl fits

@@ -1,6 +1,6 @@
 -- An item, or the end of the run.
 use Rattle.std.proofs.Common.{[], subst}
-use Rattle.px_feed.specs.declared.feed.Taken.{Taken}
+use Rattle.px_feed.specs.declared.ending.Taken.{Taken}
 use Rattle.px_feed.specs.Outputs.{lines_for}
 use Rattle.xpush.specs.Standing.{streams, Took}
 use Rattle.xpush.proofs.FeedEnds.{ended_at_end, ended_at_fault, ended_at_read_fault, ended_for_memory}
