@@ -21,10 +21,13 @@ use Rattle.px_afa.specs.Sound.{AreRising, AreLive}
 use Rattle.px_step.proofs.RisingNumbers.{rising_equal}
 use Rattle.px_tiers.specs.declared.tier.Tier.{Tier}
 use Rattle.px_tiers.specs.declared.tiers.Tiers.{Tiers}
+use Rattle.px_machine.specs.Machines.{bound_of}
+use Rattle.px_tiers.specs.Bytes.{halved, AreBounded, IsWithin, remembered}
 use Rattle.px_tiers.specs.HomeTables.{home_of}
-use Rattle.px_tiers.specs.Parts.{Homes, AreLiveAtHome, HasHome, AreShared, IsGathered, ids_where, passes_at_home, others, without_home, moved, among}
+use Rattle.px_tiers.specs.Parts.{Homes, AreLiveAtHome, HasHome, AreShared, IsGathered, ids_where, passes_at_home, others, moved, among}
 use Rattle.px_tiers.specs.Standings.{IsTier, StandFor, AreSettled, AreTaken}
 use Rattle.px_tiers.proofs.Collecting.{among_size, ids_there, own_found, own_listed, dropped_at_home}
+use Rattle.px_tiers.proofs.Remembering.{bounded_put, bounded_sum}
 use Rattle.px_tiers.proofs.Shared.{found, changed, gathered, rising_passing}
 
 -- which machines there are
@@ -88,15 +91,19 @@ are_gathered tiers live stand kept fresh all ids fresh_has all_has taken same wi
 
 -- A new tier stands behind those that stay.
 pub rebuilt : (old new : Tiers) (live : List Subscription) → StandFor old live → (kept n : ℕ) (ids : List ℕ) (tier : Tier) (part : List Subscription) → kept ≤ length old.tiers.items → n ≡ kept + 1 →
-    All (IsGathered (home_of old.homes) kept ids) live → IsTier tier part → part ≡ among ids live → ((q : ℕ) → home_of new.homes q ≡ moved ids n (home_of old.homes) q) →
+    All (IsGathered (home_of old.homes) kept ids) live → IsTier tier part → bound_of tier.machine ≡ halved 134_217_728 n → part ≡ among ids live → ((q : ℕ) → home_of new.homes q ≡ moved ids n (home_of old.homes) q) →
     new.tiers.items ≡ take kept old.tiers.items ++ tier ∷ [] → new.waiting.items ≡ [] → AreSettled new live
-rebuilt old new live stand kept n ids tier part within number all is part_is homes tiers none =
+rebuilt old new live stand kept n ids tier part within number all is share part_is homes tiers none =
     record {
       stand = record {
         parts = take kept stand.parts ++ part ∷ [];
         machines = let P : List Tier → Type 0 = λ ts. AllZip IsTier ts (take kept stand.parts ++ part ∷ []) in
             subst P (sym tiers) (replaced_machines kept old.tiers.items stand.parts tier part stand.machines is);
         shared = on (home_of new.homes) part new.waiting.items (sym (fun_ext homes)) (sym part_is) (sym none);
+        bounded =
+            let P : List Tier → Type 0 = λ ts. AreBounded 134_217_728 ts in
+            let share_there : bound_of tier.machine ≡ halved 134_217_728 (suc kept) = share ∙ ap (halved 134_217_728) (let e : n ≡ suc kept = omega arith in e) in
+            subst P (sym tiers) (bounded_put 134_217_728 kept old.tiers.items tier within share_there stand.bounded);
       };
       none_waits = none;
     }
@@ -130,6 +137,7 @@ changed_stand old new id tiers homes waiting before after stand same =
           let P : Homes → Type 0 = λ h. AreShared h stand.parts (old.waiting.items ++ id ∷ []) after in
           let Q : List ℕ → Type 0 = λ w. AreShared (home_of new.homes) stand.parts w after in
           subst Q (sym waiting) (subst P (sym (fun_ext homes)) (changed (home_of old.homes) stand.parts old.waiting.items before after id stand.shared same));
+      bounded = let P : List Tier → Type 0 = λ ts. AreBounded 134_217_728 ts in subst P (sym tiers) stand.bounded;
     }
 
 -- Whoever waits is no longer live.
@@ -144,6 +152,7 @@ none_left old new live fresh stand tiers homes none fresh_has empty =
             let P : List ℕ → Type 0 = λ h. AreShared (home_of h) stand.parts [] live in
             let Q : List ℕ → Type 0 = λ w. AreShared (home_of new.homes) stand.parts w live in
             subst Q (sym none) (subst P (sym homes) (record { at_home = stand.shared.at_home; all = λ k d lt. by (get_or live k d) (own_found live k d lt) (stand.shared.all k d lt) }));
+        bounded = let P : List Tier → Type 0 = λ ts. AreBounded 134_217_728 ts in subst P (sym tiers) stand.bounded;
       };
       none_waits = none;
     }
@@ -215,6 +224,12 @@ pub settled_stand : {A E : Type 0} (old new : Tiers) (live : List Subscription) 
     OnOk result (StandFor new live)
 settled_stand old new live (Ok x) h settled = h live settled
 settled_stand old new live (Err x) h settled = tt
+
+-- what they remember behind a document
+pub few_remembered : {A E : Type 0} (tiers : Tiers) (live : List Subscription) (result : Result A E) → OnOk result (StandFor tiers live) → OnOk result (All IsWithin tiers.tiers.items) →
+    OnOk result (remembered tiers ≤ 134_217_728)
+few_remembered tiers live (Ok x) stand within = bounded_sum 134_217_728 tiers.tiers.items stand.bounded within
+few_remembered tiers live (Err x) stand within = tt
 
 pub none_from : (ids : List ℕ) (none : Bool) → none ≡ (length ids == 0) → none ≡ true → ids ≡ []
 none_from [] none e t = refl

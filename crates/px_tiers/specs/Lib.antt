@@ -1,3 +1,4 @@
+pub mod Bytes
 pub mod HomeTables
 pub mod PartRows
 pub mod Parts

@@ -8,6 +8,7 @@ use Rattle.px_afa.specs.Building.{automata}
 use Rattle.px_machine.specs.Machines.{HasRun}
 use Rattle.px_tiers.specs.declared.tier.Tier.{Tier}
 use Rattle.px_tiers.specs.declared.tiers.Tiers.{Tiers}
+use Rattle.px_tiers.specs.Bytes.{AreBounded}
 use Rattle.px_tiers.specs.HomeTables.{home_of}
 use Rattle.px_tiers.specs.Parts.{Homes, AreShared}
 
@@ -17,11 +18,12 @@ pub record IsTier (tier : Tier) (part : List Subscription) : Type 0 where
   pub steps : HaveSteps part
   pub ids : tier.ids.items ≡ map (λ s. s.id) part
 
--- The live filters are shared out among the machines, but for those that wait.
+-- The live filters are shared out among the machines, but for those that wait. Together the machines may remember so many bytes.
 pub record StandFor (tiers : Tiers) (live : List Subscription) : Type 0 where
   pub parts : List (List Subscription)
   pub machines : AllZip IsTier tiers.tiers.items parts
   pub shared : AreShared (home_of tiers.homes) parts tiers.waiting.items live
+  pub bounded : AreBounded 134_217_728 tiers.tiers.items
 
 -- The same, and nobody waits.
 pub record AreSettled (tiers : Tiers) (live : List Subscription) : Type 0 where

@@ -9,7 +9,8 @@ ghost use Rattle.px_xpath.specs.Meaning.{holds};
 ghost use Rattle.px_xpath.specs.Subscribed.{subscriptions};
 ghost use Rattle.px_afa.specs.Building.{Automata};
 ghost use Rattle.px_afa.specs.Sound.{AreLive};
-ghost use Rattle.px_machine.specs.Machines.{HasRun, program_of};
+ghost use Rattle.px_machine.specs.Machines.{HasRun, program_of, bound_of};
+ghost use Rattle.px_tiers.specs.Bytes.{IsWithin};
 ghost use Rattle.px_tiers.specs.Parts.{ids_where};
 ghost use Rattle.px_tiers.specs.Standings.{IsTier};
 
@@ -35,6 +36,7 @@ impl Tier {
     pub(crate) fn build(alloc: Global, filters: &[Numbered], bound: u64) -> Result<Tier, AllocError>
         requires live { AreLive (subscriptions filters.now) }
         ensures tier { IfOk result (λ tier. IsTier tier (subscriptions filters.now)) }
+        ensures bound { IfOk result (λ tier. bound_of tier.machine ≡ bound) }
     {
         let program = Program::build(alloc, filters)?;
         let machine = Machine::bounded(alloc, Arc::new(alloc, program)?, bound)?;
@@ -50,7 +52,8 @@ impl Tier {
     }
 
     /// The ids of its filters that match the document of these events, rising. It is then before
-    /// the next document. Its only failure is want of memory.
+    /// the next document, and remembers no more bytes than it may. Its only failure is want of
+    /// memory.
     pub(crate) fn matches(&mut self, events: &EventList) -> Result<Ids, AllocError>
         requires stands { (part : List Subscription) × IsTier self.old part }
         requires whole { (root : Root) × (events_of root ≡ events.now) }
@@ -59,6 +62,8 @@ impl Tier {
             ids ≡ ids_where (λ filter. holds filter root) part) }
         ensures stands { OnOk result ((part : List Subscription) → IsTier self.old part →
             IsTier self.new part) }
+        ensures bound { bound_of self.new.machine ≡ bound_of self.old.machine }
+        ensures within { OnOk result (IsWithin self.new) }
     {
         take_all(&mut self.machine, events)?;
         self.machine.finish()
@@ -72,6 +77,7 @@ fn take_all(machine: &mut Machine, events: &EventList) -> Result<(), AllocError>
     ensures ok { OnOk result ((program : Automata) (given : List Happened) →
         HasRun machine.old program given → HasRun machine.new program (given ++ events.now)) }
     ensures same { program_of machine.new ≡ program_of machine.old }
+    ensures bound { bound_of machine.new ≡ bound_of machine.old }
 {
     for place in 0..events.len() {
         machine.event(events.get(place))?;

@@ -1,6 +1,6 @@
 //! Machines of rising age for the live filters of a history that goes on.
 
-ghost use Rattle.std.specs.Prelude.{◌≡◌, ◌≤◌, ◌<◌, ◌+◌, ◌||◌, ◌&&◌, ◌==◌, ℕ, [], true, IfOk, OnOk, List, length, map};
+ghost use Rattle.std.specs.Prelude.{◌≡◌, ◌≤◌, ◌<◌, ◌+◌, ◌||◌, ◌&&◌, ◌==◌, ℕ, [], true, All, IfOk, OnOk, List, length, map};
 ghost use Rattle.std.specs.List.{AllZip};
 ghost use Rattle.px_text.specs.Nodes.{Root};
 ghost use Rattle.px_text.specs.Sets.{has, Rising};
@@ -8,23 +8,20 @@ ghost use Rattle.px_reader.specs.Spelling.{events_of};
 ghost use Rattle.px_xpath.specs.Histories.{IsLive, Subscription, live, matches};
 ghost use Rattle.px_xpath.specs.Meaning.{holds};
 ghost use Rattle.px_workload.specs.Changes.{history};
+ghost use Rattle.px_tiers.specs.Bytes.{AreBounded, IsWithin, remembered};
 ghost use Rattle.px_tiers.specs.HomeTables.{home_of};
 ghost use Rattle.px_tiers.specs.Parts.{ids_where, others, passes_at_home};
 ghost use Rattle.px_tiers.specs.Standings.{IsTier, StandFor, AreSettled};
 
 use crate::gathering::{filters_of, gather, live_among, push_if};
 use crate::home_table::HomeTable;
-use crate::planning::kept_tiers;
+use crate::planning::{kept_tiers, share_of};
 use crate::tier::Tier;
 use px_reader::EventList;
 use px_step::ascending;
 use px_text::Ids;
 use px_workload::{Journal, live_filters_are_in_order};
 use std::alloc::{AllocError, Global};
-
-/// How many bytes all machines together may remember from one document to the next. Each has half
-/// of what the older ones leave.
-const MOST_BYTES: u64 = 134_217_728;
 
 /// The machines of the live filters, oldest first. Each live filter is at home in one of them, as
 /// it is live, or waits to be built into the next; whoever is no longer live has no home. So a
@@ -63,13 +60,15 @@ impl Tiers {
     }
 
     /// The ids of the live filters that match the document of these events, rising. What waits is
-    /// built first. Its only failure is want of memory; the tiers may then only be dropped.
+    /// built first. All machines together then remember 134,217,728 bytes at most. Its only failure
+    /// is want of memory; the tiers may then only be dropped.
     pub fn matches(&mut self, journal: &Journal, events: &EventList) -> Result<Ids, AllocError>
         requires stand { StandFor self.old (live (history journal.now.changes)) }
         requires whole { (root : Root) × (events_of root ≡ events.now) }
         ensures ids { IfOk result (λ ids. (root : Root) → events_of root ≡ events.now → ids ≡
             matches (history journal.now.changes) root) }
         ensures stand { OnOk result (StandFor self.new (live (history journal.now.changes))) }
+        ensures few { OnOk result (remembered self.new ≤ 134_217_728) }
     {
         // The history is legal, so the ids of the live filters rise.
         let _version = journal.version();
@@ -112,7 +111,7 @@ impl Tiers {
         let ids = ascending(ids);
         let filters = filters_of(self.alloc, journal, &ids)?;
         let number = kept as u8 + 1;
-        let tier = Tier::build(self.alloc, &filters, MOST_BYTES >> number)?;
+        let tier = Tier::build(self.alloc, &filters, share_of(kept))?;
         self.homes.set_all(&ids, number)?;
         self.tiers.truncate(kept);
         self.tiers.push(tier)?;
@@ -129,6 +128,7 @@ impl Tiers {
             ids ≡ ids_where (λ filter. holds filter root) live) }
         ensures stand { OnOk result ((live : List Subscription) → AreSettled self.old live →
             StandFor self.new live) }
+        ensures within { OnOk result (All IsWithin self.new.tiers.items) }
     {
         let ids = found_by(self.alloc, &mut self.tiers, &self.homes, events)?;
         Ok(Ids::of(ascending(ids)))
@@ -150,6 +150,9 @@ fn found_by(
         passes_at_home (home_of homes.now) (λ filter. holds filter root) 1 parts q) }
     ensures stand { OnOk result ((parts : List (List Subscription)) →
         AllZip IsTier tiers.old.items parts → AllZip IsTier tiers.new.items parts) }
+    ensures bounded { OnOk result ((left : ℕ) → AreBounded left tiers.old.items →
+        AreBounded left tiers.new.items) }
+    ensures within { OnOk result (All IsWithin tiers.new.items) }
 {
     let mut ids = Vec::new(alloc);
     for (at, tier) in tiers.iter_mut().enumerate() {

@@ -1,5 +1,4 @@
 -- One id more.
-use Rattle.std.proofs.Common.{◌∙◌}
 use Rattle.px_tiers.proofs.Matching.{ids_more}
 use Rattle.px_tiers.proofs.tier.ids_of.Goals as goal
 

@@ -16,6 +16,7 @@ loop-place-preserved c =
     let is : next ≡ get_or events place next = sym (get_or_from_slice_get events place next next c.get.ensures) in
     record {
       same = c.event.ensures.same ∙ c.loop-place.invariant.same;
+      bound = c.event.ensures.bound ∙ c.loop-place.invariant.bound;
       run = λ program given run.
           let P : List Event → Type 0 = λ es. HasRun c.event.new.self program es in
           subst P (taken_next given events place next within is) (c.in_ok-event.ensures.ok program (given ++ take place events) (c.loop-place.invariant.run program given run));

@@ -2,11 +2,12 @@
 use Rattle.std.proofs.Common.{◌≡◌, ◌++◌, List, take}
 use Rattle.px_reader.specs.declared.event.Event.{Event}
 use Rattle.px_afa.specs.Building.{Automata}
-use Rattle.px_machine.specs.Machines.{HasRun, program_of}
+use Rattle.px_machine.specs.Machines.{HasRun, program_of, bound_of}
 use Rattle.px_tiers.proofs.tier.take_all.Given as goal
 
 abbrev pub invariant-loop-place : goal.invariant-loop-place
 invariant-loop-place l = record {
   same : program_of l.machine ≡ program_of l.initial.machine;
+  bound : bound_of l.machine ≡ bound_of l.initial.machine;
   run : (program : Automata) (given : List Event) → HasRun l.initial.machine program given → HasRun l.machine program (given ++ take l.place l.events);
 }

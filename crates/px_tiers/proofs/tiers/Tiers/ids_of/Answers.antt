@@ -18,4 +18,5 @@ returns-clause-stand c = λ live settled. record {
   parts = settled.stand.parts;
   machines = c.in_ok-ids.ensures.stand settled.stand.parts settled.stand.machines;
   shared = settled.stand.shared;
+  bounded = c.in_ok-ids.ensures.bounded 134_217_728 settled.stand.bounded;
 }

@@ -1,7 +1,7 @@
 -- What waits is built, and then the tiers find what matches.
 use Rattle.px_workload.specs.Changes.{history}
 use Rattle.px_xpath.specs.Histories.{live}
-use Rattle.px_tiers.proofs.Settling.{settled_matches, settled_stand}
+use Rattle.px_tiers.proofs.Settling.{few_remembered, settled_matches, settled_stand}
 use Rattle.px_tiers.proofs.tiers.Tiers.matches.Goals as goal
 
 pub ids_of-requires : goal.ids_of-requires
@@ -15,3 +15,9 @@ returns-clause-ids c =
 
 pub returns-clause-stand : goal.returns-clause-stand
 returns-clause-stand c = settled_stand c.catch_up.new.self c.ids_of.new.self (live (history c.args.journal.now.changes)) c.ids_of.result c.ids_of.ensures.stand c.in_ok-catch_up.ensures.settled
+
+pub returns-clause-few : goal.returns-clause-few
+returns-clause-few c =
+    let all = live (history c.args.journal.now.changes) in
+    let stand = settled_stand c.catch_up.new.self c.ids_of.new.self all c.ids_of.result c.ids_of.ensures.stand c.in_ok-catch_up.ensures.settled in
+    few_remembered c.ids_of.new.self all c.ids_of.result stand c.ids_of.ensures.within

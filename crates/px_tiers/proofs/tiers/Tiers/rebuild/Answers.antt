@@ -26,7 +26,7 @@ returns c =
     let all = are_gathered old (live h) c.requires.stand c.args.kept c.args.fresh.items c.gather.new.gathered.items ids c.requires.fresh c.in_ok-gather.ensures.old taken c.ascending-ids.ensures.same c.requires.within in
     let part_is = ap subscriptions c.deref-3.ensures.value ∙ c.in_ok-filters.ensures.filters ∙ ap (λ some. among some (live h)) c.deref-2.ensures.value in
     record {
-      settled = rebuilt old new (live h) c.requires.stand c.args.kept (c.args.kept + 1) ids c.in_ok-tier.tier (subscriptions c.deref-3.result.now) c.requires.within refl all c.in_ok-tier.ensures.tier part_is
+      settled = rebuilt old new (live h) c.requires.stand c.args.kept (c.args.kept + 1) ids c.in_ok-tier.tier (subscriptions c.deref-3.result.now) c.requires.within refl all c.in_ok-tier.ensures.tier (c.in_ok-tier.ensures.bound ∙ c.share_of.ensures.share) part_is
           (λ q. c.in_ok-set_all.ensures.ok q ∙ ap (λ some. moved some (c.args.kept + 1) (home_of old.homes) q) c.deref-4.ensures.value)
           (c.in_ok-push.ensures.items ∙ ap (λ tiers. tiers ++ c.in_ok-tier.tier ∷ []) c.truncate.ensures.items) c.clear.ensures.items;
     }
