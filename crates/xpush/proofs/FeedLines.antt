@@ -86,12 +86,14 @@ line_of_replace name text name_seen seen line old new first now least same_items
     let is = is_replacing name text h.0 h.1 ∙ ap (λ (one : List ℕ). Replacing one text) (sym same_name) ∙ ap (Replacing name_seen) (sym same) in
     brought_line (items.Replace name text) (Replacing name_seen seen) line old new first now least h is same_items same_outgoing answers
 
-pub line_of_document : {E : Type 0} (doc : Doc) (line : Result OutLine E) (serving : Serving) (first now : Streams) (least : ℕ) →
-    ((root : Root) → IsOf doc root → IfOk line (λ one. Answered (Showing root) serving.journal.changes serving.journal.changes one)) →
-    Holds (items.Document doc) serving first now least → HasLine line serving first now least
-line_of_document doc line serving first now least answers h =
+pub line_of_document : {E : Type 0} (doc : Doc) (line : Result OutLine E) (old new : Serving) (first now : Streams) (least : ℕ) → new.items ≡ old.items →
+    new.outgoing ≡ old.outgoing → new.journal.changes ≡ old.journal.changes →
+    ((root : Root) → IsOf doc root → IfOk line (λ one. Answered (Showing root) old.journal.changes old.journal.changes one)) →
+    Holds (items.Document doc) old first now least → HasLine line new first now least
+line_of_document {E = E} doc line old new first now least same_items same_outgoing same_changes answers h =
     let shown = is_showing doc h.0 h.1 in
-    brought_line (items.Document doc) (Showing shown.0) line serving serving first now least h shown.1 refl refl (answers shown.0 shown.2)
+    let P : List Change → Type 0 = λ changes. IfOk line (λ one. Answered (Showing shown.0) old.journal.changes changes one) in
+    brought_line (items.Document doc) (Showing shown.0) line old new first now least h shown.1 same_items same_outgoing (subst P (sym same_changes) (answers shown.0 shown.2))
 
 -- what is asked last, its line, and the history behind it
 last_line : (asks : List Ask) (ask : Ask) (before after : List Change) (line : OutLine) → history_behind [] asks ≡ history before →

@@ -56,10 +56,6 @@ pub stands_memory : (items : Items) (changes : List Change) (outgoing : Outgoing
 stands_memory items changes outgoing first now waiting least s =
     stands_cut items changes outgoing first now now waiting least Memory s (refl, said_front outgoing first.held now.held (lines_for [] s.asks) s.said)
 
-pub holds_memory : (item : Given) (serving : Serving) (first now : Streams) (least : ℕ) → Holds item serving first now least → Ended Memory first now
-holds_memory item serving first now least h =
-    stands_memory serving.items serving.journal.changes serving.outgoing first now (h.0 ∷ []) least h.2
-
 -- a read fault has not ended the feed before
 not_failed : (items : Items) (left : Option (List ℕ)) (bytes : List ℕ) (given : List Item) → HasTaken items left bytes given → HasEnded items ending.ReadFault → ⊥
 not_failed items left bytes given (inl further) failed = let going = further.going in absurd (cc)

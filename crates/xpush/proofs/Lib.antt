@@ -3,11 +3,10 @@ pub mod Changing
 pub mod FeedEnds
 pub mod FeedFronts
 pub mod FeedLines
-pub mod FeedPrograms
-pub mod FeedRefusals
 pub mod FeedTaking
 pub mod Fronts
 pub mod Lines
+pub mod Noting
 pub mod OneOutput
 pub mod WhatIsFound
 pub mod Reading

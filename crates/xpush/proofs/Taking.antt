@@ -1,6 +1,5 @@
 -- A machine that takes events, and what it says of them.
-use Rattle.std.proofs.Common.{◌≡◌, ℕ, ◌+◌, ◌<◌, List, [], ◌∷◌, ◌++◌, length, take, get_or, Result, Ok, Err, IfOk, refl, sym, ap, ◌∙◌, subst, append_assoc}
-use Rattle.std.proofs.lemmas.List.{take_more}
+use Rattle.std.proofs.Common.{◌≡◌, ℕ, List, [], ◌∷◌, ◌++◌, Result, Ok, Err, IfOk, sym, ap, ◌∙◌, subst}
 use Rattle.px_text.specs.Nodes.{Root}
 use Rattle.px_reader.specs.Documents.{content}
 use Rattle.px_reader.specs.Spelling.{events_of}
@@ -8,6 +7,7 @@ use Rattle.px_reader.specs.declared.doc.Doc.{Doc}
 use Rattle.px_reader.specs.declared.event.Event.{Event}
 use Rattle.px_xpath.specs.declared.numbered.Numbered.{Numbered}
 use Rattle.px_xpath.specs.Subscribed.{subscriptions}
+use Rattle.px_xpath.specs.Histories.{Change, matches}
 use Rattle.px_afa.specs.Building.{Automata, automata}
 use Rattle.px_afa.specs.Sound.{AreProper}
 use Rattle.px_afa.proofs.Soundness.{have-steps}
@@ -28,13 +28,6 @@ pub accepts : (live : List Numbered) (program : Automata) (root : Root) → prog
 accepts live program root e =
     ap (λ (a : Automata). ids_accepted a root) e ∙ accepted-matches (subscriptions live) (have-steps (subscriptions live) (are-proper live)) root
 
--- the events so far, and the next
-pub taken_next : (given events : List Event) (i : ℕ) (next : Event) → i < length events → next ≡ get_or events i next →
-    (given ++ take i events) ++ next ∷ [] ≡ given ++ take (i + 1) events
-taken_next given events i next lt e =
-    append_assoc given (take i events) (next ∷ [])
-    ∙ ap (λ more. given ++ more) (ap (λ x. take i events ++ x ∷ []) e ∙ sym (take_more events i next lt))
-
 -- the ids, when the last events have been taken as well
 pub behind_ids : {E : Type 0} (before after : Machine) (events : List Event) (result : Result (List ℕ) E) →
     ((program : Automata) (given : List Event) → HasRun before program given → HasRun after program (given ++ events)) →
@@ -45,11 +38,8 @@ behind_ids before after events (Ok ids) on h = λ program given root run e.
 behind_ids before after events (Err found) on h = tt
 
 -- the ids of a document that is one
-pub doc_ids : {E : Type 0} (machine : Machine) (doc : Doc) (events : List Event) (result : Result (List ℕ) E) → AreEvents (content doc) events →
-    IfOk result (λ ids. (program : Automata) (given : List Event) (root : Root) → HasRun machine program given → events_of root ≡ given ++ events → ids ≡ ids_accepted program root) →
-    (live : List Numbered) (root : Root) → HasRun machine (automata (subscriptions live)) [] → IsOf doc root → IfOk result (λ ids. ids ≡ ids_matching (subscriptions live) root)
-doc_ids machine doc events (Ok ids) are h live root run is =
-    let same : are.root ≡ root = tree_one (content doc) are.root root are.verdict is.verdict in
-    let program = automata (subscriptions live) in
-    h program [] are.root run (sym are.events_are) ∙ ap (λ r. ids_accepted program r) same ∙ accepts live program root refl
-doc_ids machine doc events (Err found) are h live root run is = tt
+pub doc_ids : {E : Type 0} (doc : Doc) (events : List Event) (h : List Change) (result : Result (List ℕ) E) → AreEvents (content doc) events →
+    IfOk result (λ ids. (root : Root) → events_of root ≡ events → ids ≡ matches h root) → (root : Root) → IsOf doc root → IfOk result (λ ids. ids ≡ matches h root)
+doc_ids doc events h (Ok ids) are found root is =
+    let same : are.root ≡ root = tree_one (content doc) are.root root are.verdict is.verdict in found root (ap events_of (sym same) ∙ sym are.events_are)
+doc_ids doc events h (Err e) are found root is = tt

@@ -2,6 +2,7 @@ pub mod Forms
 pub mod Fronts
 pub mod Answers
 pub mod Documents
+pub mod Noting
 pub mod OptionRows
 pub mod Stops
 pub mod Showing

@@ -1,7 +1,7 @@
 -- What one item of a feed is answered.
-use Rattle.std.specs.Prelude.{◌≡◌, List}
+use Rattle.std.specs.Prelude.{◌≡◌, ℕ, List, Option, Some, None}
 use Rattle.px_feed.specs.declared.line.OutLine.{OutLine}
-use Rattle.px_feed.specs.declared.line.OutLine.TheVariants.{NoFilter, AddTooLarge, AddNoVersions, DropUnknown, DropNoVersions, ReplaceUnknown, ReplaceTooLarge, ReplaceNoVersions}
+use Rattle.px_feed.specs.declared.line.OutLine.TheVariants.{Added, Dropped, Replaced, NoFilter, AddTooLarge, AddNoVersions, DropUnknown, DropNoVersions, ReplaceUnknown, ReplaceTooLarge, ReplaceNoVersions}
 use Rattle.px_feed.specs.Items.{Item}
 use Rattle.px_feed.specs.Outputs.{Ask, Asks, reply}
 use Rattle.px_workload.specs.declared.change.Change.{Change}
@@ -41,3 +41,10 @@ abbrev pub IsReplaceRefused : Refusal → OutLine → Type 0
 IsReplaceRefused Unknown line = line ≡ ReplaceUnknown
 IsReplaceRefused (TooLarge live) line = line ≡ ReplaceTooLarge live
 IsReplaceRefused NoVersions line = line ≡ ReplaceNoVersions
+
+-- the id whose filter a line says was added, dropped or replaced
+abbrev pub changed : OutLine → Option ℕ
+changed (Added id) = Some id
+changed (Dropped id version) = Some id
+changed (Replaced id version) = Some id
+changed _ = None

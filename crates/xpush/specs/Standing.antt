@@ -2,7 +2,6 @@
 use Rattle.std.specs.Prelude.{◌≡◌, ℕ, ◌+◌, ◌≤◌, ◌++◌, ◌∷◌, [], List, length, Option, Some, Result, IsTrue, IfOk, OnOk, IfErr, MatchResult}
 use Rattle.px_io.specs.Faults.{Rose}
 use Rattle.px_io.specs.Flows.{TakesFrom}
-use Rattle.px_afa.specs.Building.{Automata, automata}
 use Rattle.px_feed.specs.declared.feed.Items.{Items}
 use Rattle.px_feed.specs.declared.ending.Taken.{Taken}
 use Rattle.px_feed.specs.declared.ending.Taken.TheVariants as taken
@@ -15,13 +14,10 @@ use Rattle.px_feed.specs.Items.{Item}
 use Rattle.px_feed.specs.Outputs.{Ask, AllAsk, Out, history_behind, lines_for, text_of}
 use Rattle.px_feed.specs.Taking as taking
 use Rattle.px_feed.specs.Taking.{HasTaken}
-use Rattle.px_machine.specs.declared.machine.Machine.{Machine}
-use Rattle.px_machine.specs.Machines.{HasRun}
 use Rattle.px_workload.specs.declared.change.Change.{Change}
 use Rattle.px_workload.specs.Changes.{history}
-use Rattle.px_xpath.specs.declared.numbered.Numbered.{Numbered}
 use Rattle.px_xpath.specs.Histories.{live}
-use Rattle.px_xpath.specs.Subscribed.{subscriptions}
+use Rattle.px_tiers.specs.Standings.{StandFor}
 use Rattle.xpush.specs.Answers.{Served, ServedWhole, WritesFront, is_finished, is_cut_short}
 use Rattle.xpush.specs.Forms.{Serves}
 use Rattle.xpush.specs.Replying.{Answered}
@@ -124,22 +120,6 @@ SaysLine line result old new held after =
     (first : Streams) (left : Option (List ℕ)) (faults least : ℕ) → HasLine line old first (streams left held faults) least →
     OnOk result (Rests new first (streams left after faults) (least + 1)) × IfErr result (λ status. Ended status first (streams left after faults))
 
--- the program is that of the filters that are live behind the changes
-pub record IsCompiled (program : Automata) (changes : List Change) : Type 0 where
-  pub filters : List Numbered
-  pub program_is : program ≡ automata (subscriptions filters)
-  pub filters_are : subscriptions filters ≡ live (history changes)
-
--- The machine stands before a document, with the program of the filters that are live behind the changes.
-pub record IsReady (machine : Machine) (changes : List Change) : Type 0 where
-  pub program : Automata
-  pub before : HasRun machine program []
-  pub compiled : IsCompiled program changes
-
--- Where it stood before a document, it stands before the next, with the same program.
-abbrev pub StaysReady : (old new : Machine) → Type 0
-StaysReady old new = (program : Automata) → HasRun old program [] → HasRun new program []
-
--- Where there are as many changes as before, the history is the same: only a change that is accepted makes another.
-abbrev pub Keeps : (before after : List Change) → Type 0
-Keeps before after = length after ≡ length before → history after ≡ history before
+-- the machines stand for the filters that are live behind the changes
+abbrev pub KeepsUp : Serving → Type 0
+KeepsUp serving = StandFor serving.tiers (live (history serving.journal.changes))

@@ -9,7 +9,7 @@ ghost use Rattle.px_machine.specs.Machines.{HasRun, program_of};
 ghost use Rattle.xpush.specs.Verdicts.{ids_accepted};
 
 use px_machine::Machine;
-use px_reader::{Event, EventList};
+use px_reader::Event;
 use px_text::Ids;
 use std::alloc::AllocError;
 
@@ -24,20 +24,6 @@ pub fn take_all(machine: &mut Machine, events: &[Event]) -> Result<(), AllocErro
 {
     for next in events {
         machine.event(next.seen())?;
-    }
-    Ok(())
-}
-
-/// The same with the events of a list.
-pub fn take_listed(machine: &mut Machine, events: &EventList) -> Result<(), AllocError>
-    requires begun { (program : Automata) × (given : List Happened) ×
-        HasRun machine.old program given }
-    ensures ok { OnOk result ((program : Automata) (given : List Happened) →
-        HasRun machine.old program given → HasRun machine.new program (given ++ events.now)) }
-    ensures same { program_of machine.new ≡ program_of machine.old }
-{
-    for place in 0..events.len() {
-        machine.event(events.get(place))?;
     }
     Ok(())
 }

@@ -1,29 +1,22 @@
 //! The command `serial`: what a feed is answered, on one thread.
 
 ghost use Rattle.std.specs.Prelude.{◌≡◌, ◌≤◌, Err, IsTrue, IfOk, IsOk, OnOk};
-ghost use Rattle.std.specs.Arc.{arc_value};
 ghost use Rattle.px_io.specs.Faults.{Rose};
-ghost use Rattle.px_text.specs.Nodes.{Root};
 ghost use Rattle.px_feed.specs.declared.item.Item.TheVariants as items;
-ghost use Rattle.px_feed.specs.Items.{Showing};
 ghost use Rattle.xpush.specs.Answers.{Served, ServedWhole, WritesFront, is_finished, is_cut_short};
 ghost use Rattle.xpush.specs.Forms.{Serves};
-ghost use Rattle.xpush.specs.Replying.{Answered};
-ghost use Rattle.xpush.specs.Standing.{Streams, streams, Rests, Holds, Ended, TakesNext, TakesUp, ServesItem, Replies, SaysLine, IsCompiled, IsReady, StaysReady, Keeps};
-ghost use Rattle.xpush.specs.Verdicts.{IsOf};
+ghost use Rattle.xpush.specs.Standing.{Streams, streams, Rests, Holds, Ended, TakesNext, TakesUp, ServesItem, Replies, SaysLine, KeepsUp};
 
 use crate::changes::{add, remove, replace};
-use crate::filtering::ids_on;
+use crate::filtering::{line_of_document, noted};
 use crate::outgoing::Outgoing;
-use px_afa::Program;
 use px_feed::{Item, Items, OutLine, Status, Taken};
 use px_io::{Sink, Source};
-use px_machine::Machine;
 use px_reader::Doc;
 use px_text::Bytes;
-use px_workload::{Journal, live_filters_are_in_order};
+use px_tiers::Tiers;
+use px_workload::Journal;
 use std::alloc::{AllocError, Global};
-use std::sync::Arc;
 
 /// A feed has at most so many bytes, and each item takes one at least.
 const MOST_ITEMS: u64 = 1_099_511_627_776;
@@ -52,12 +45,14 @@ pub fn serve_feed<S: Source, K: Sink>(alloc: Global, source: &mut S, sink: &mut 
     }
 }
 
-/// A run of `serial`: the feed, the changes that it made, and the lines on their way to the sink.
+/// A run of `serial`: the feed, the changes that it made, the machines of the filters that are live
+/// behind them, and the lines on their way to the sink.
 #[derive(Drop)]
 pub struct Serving {
     alloc: Global,
     items: Items,
     journal: Journal,
+    tiers: Tiers,
     outgoing: Outgoing,
 }
 
@@ -65,11 +60,13 @@ impl Serving {
     // Before the first item.
     fn new(alloc: Global) -> Result<Serving, AllocError>
         ensures begun { IfOk result (λ serving. (first : Streams) → Rests serving first first 0) }
+        ensures keeps_up { IfOk result KeepsUp }
     {
         Ok(Serving {
             alloc,
             items: Items::new(alloc)?,
             journal: Journal::new(alloc),
+            tiers: Tiers::new(alloc),
             outgoing: Outgoing::new(alloc),
         })
     }
@@ -77,6 +74,7 @@ impl Serving {
     // Answers all items, and ends the run.
     fn run<S: Source, K: Sink>(&mut self, source: &mut S, sink: &mut K) -> Status
         requires begun { (first : Streams) → Rests self.old first first 0 }
+        requires keeps_up { KeepsUp self.old }
         ensures ended { Ended result (streams (S.left source.old) (K.held sink.old)
             (S.faults source.old)) (streams (S.left source.new) (K.held sink.new)
             (S.faults source.new)) }
@@ -96,6 +94,7 @@ impl Serving {
         requires held { (first : Streams) ×
             Holds item self.old first (streams (S.left source.old) (K.held sink.old)
             (S.faults source.old)) 0 }
+        requires keeps_up { KeepsUp self.old }
         ensures ended { (first : Streams) →
             Holds item self.old first (streams (S.left source.old) (K.held sink.old)
             (S.faults source.old)) 0 →
@@ -124,9 +123,11 @@ impl Serving {
         source: &mut S,
         sink: &mut K,
     ) -> Result<Item, Status>
+        requires keeps_up { KeepsUp self.old }
         ensures serves { ServesItem item result self.old self.new
             (streams (S.left source.old) (K.held sink.old) (S.faults source.old))
             (streams (S.left source.new) (K.held sink.new) (S.faults source.new)) }
+        ensures keeps_up { OnOk result (KeepsUp self.new) }
         ensures write_fault { result ≡ Err Status.WriteFault →
             Rose (K.faults sink.old) (K.faults sink.new) }
         ensures source_counts { S.faults source.old ≤ S.faults source.new }
@@ -147,16 +148,18 @@ impl Serving {
         source: &mut S,
         sink: &mut K,
     ) -> Result<Item, Status>
+        requires keeps_up { KeepsUp self.old }
         ensures serves { ServesItem (items.Add text) result self.old self.new
             (streams (S.left source.old) (K.held sink.old) (S.faults source.old))
             (streams (S.left source.new) (K.held sink.new) (S.faults source.new)) }
-        ensures kept { OnOk result (Keeps self.old.journal.changes self.new.journal.changes) }
+        ensures keeps_up { OnOk result (KeepsUp self.new) }
         ensures write_fault { result ≡ Err Status.WriteFault →
             Rose (K.faults sink.old) (K.faults sink.new) }
         ensures source_counts { S.faults source.old ≤ S.faults source.new }
         ensures sink_counts { K.faults sink.old ≤ K.faults sink.new }
     {
         let line = add(self.alloc, &mut self.journal, text.as_slice());
+        let line = noted(&mut self.tiers, line);
         self.reply(line, source, sink)
     }
 
@@ -167,16 +170,18 @@ impl Serving {
         source: &mut S,
         sink: &mut K,
     ) -> Result<Item, Status>
+        requires keeps_up { KeepsUp self.old }
         ensures serves { ServesItem (items.Remove text) result self.old self.new
             (streams (S.left source.old) (K.held sink.old) (S.faults source.old))
             (streams (S.left source.new) (K.held sink.new) (S.faults source.new)) }
-        ensures kept { OnOk result (Keeps self.old.journal.changes self.new.journal.changes) }
+        ensures keeps_up { OnOk result (KeepsUp self.new) }
         ensures write_fault { result ≡ Err Status.WriteFault →
             Rose (K.faults sink.old) (K.faults sink.new) }
         ensures source_counts { S.faults source.old ≤ S.faults source.new }
         ensures sink_counts { K.faults sink.old ≤ K.faults sink.new }
     {
         let line = remove(&mut self.journal, text.as_slice());
+        let line = noted(&mut self.tiers, line);
         self.reply(line, source, sink)
     }
 
@@ -189,10 +194,11 @@ impl Serving {
         source: &mut S,
         sink: &mut K,
     ) -> Result<Item, Status>
+        requires keeps_up { KeepsUp self.old }
         ensures serves { ServesItem (items.Replace name text) result self.old self.new
             (streams (S.left source.old) (K.held sink.old) (S.faults source.old))
             (streams (S.left source.new) (K.held sink.new) (S.faults source.new)) }
-        ensures kept { OnOk result (Keeps self.old.journal.changes self.new.journal.changes) }
+        ensures keeps_up { OnOk result (KeepsUp self.new) }
         ensures write_fault { result ≡ Err Status.WriteFault →
             Rose (K.faults sink.old) (K.faults sink.new) }
         ensures source_counts { S.faults source.old ≤ S.faults source.new }
@@ -204,139 +210,29 @@ impl Serving {
             name.as_slice(),
             text.as_slice(),
         );
+        let line = noted(&mut self.tiers, line);
         self.reply(line, source, sink)
     }
 
-    // Filters a document and those that follow it with one machine, up to the next change that is
-    // accepted.
+    // Filters a document with the machines of the live filters, and takes the next item.
     fn filter<S: Source, K: Sink>(
         &mut self,
         doc: Doc,
         source: &mut S,
         sink: &mut K,
     ) -> Result<Item, Status>
+        requires keeps_up { KeepsUp self.old }
         ensures serves { ServesItem (items.Document doc) result self.old self.new
             (streams (S.left source.old) (K.held sink.old) (S.faults source.old))
             (streams (S.left source.new) (K.held sink.new) (S.faults source.new)) }
+        ensures keeps_up { OnOk result (KeepsUp self.new) }
         ensures write_fault { result ≡ Err Status.WriteFault →
             Rose (K.faults sink.old) (K.faults sink.new) }
         ensures source_counts { S.faults source.old ≤ S.faults source.new }
         ensures sink_counts { K.faults sink.old ≤ K.faults sink.new }
     {
-        let Ok(program) = self.program() else {
-            return Err(Status::Memory);
-        };
-        let Ok(mut machine) = Machine::new(self.alloc, program) else {
-            return Err(Status::Memory);
-        };
-        self.filter_by(&mut machine, doc, source, sink)
-    }
-
-    // Answers a document and the items that follow it, so many at most, with the machine of the
-    // live filters, up to the next change that is accepted. A refused one leaves the machine warm.
-    fn filter_by<S: Source, K: Sink>(
-        &mut self,
-        machine: &mut Machine,
-        doc: Doc,
-        source: &mut S,
-        sink: &mut K,
-    ) -> Result<Item, Status>
-        requires ready { IsReady machine.old self.old.journal.changes }
-        ensures serves { ServesItem (items.Document doc) result self.old self.new
-            (streams (S.left source.old) (K.held sink.old) (S.faults source.old))
-            (streams (S.left source.new) (K.held sink.new) (S.faults source.new)) }
-        ensures write_fault { result ≡ Err Status.WriteFault →
-            Rose (K.faults sink.old) (K.faults sink.new) }
-        ensures source_counts { S.faults source.old ≤ S.faults source.new }
-        ensures sink_counts { K.faults sink.old ≤ K.faults sink.new }
-    {
-        let version = self.journal.version();
-        let mut item = Item::Document { doc };
-        for _ in 0..MOST_ITEMS {
-            match self.serve_by(machine, item, source, sink) {
-                Ok(next) if self.journal.version() == version => item = next,
-                other => return other,
-            }
-        }
-        Ok(item)
-    }
-
-    // Answers an item, a document with the machine of the live filters, and takes the next one.
-    fn serve_by<S: Source, K: Sink>(
-        &mut self,
-        machine: &mut Machine,
-        item: Item,
-        source: &mut S,
-        sink: &mut K,
-    ) -> Result<Item, Status>
-        requires ready { IsReady machine.old self.old.journal.changes }
-        ensures serves { ServesItem item result self.old self.new
-            (streams (S.left source.old) (K.held sink.old) (S.faults source.old))
-            (streams (S.left source.new) (K.held sink.new) (S.faults source.new)) }
-        ensures ready { OnOk result (StaysReady machine.old machine.new) }
-        ensures kept { OnOk result (Keeps self.old.journal.changes self.new.journal.changes) }
-        ensures write_fault { result ≡ Err Status.WriteFault →
-            Rose (K.faults sink.old) (K.faults sink.new) }
-        ensures source_counts { S.faults source.old ≤ S.faults source.new }
-        ensures sink_counts { K.faults sink.old ≤ K.faults sink.new }
-    {
-        match item {
-            Item::Add { text } => self.add(text, source, sink),
-            Item::Remove { text } => self.remove(text, source, sink),
-            Item::Replace { id, text } => self.replace(id, text, source, sink),
-            Item::Document { doc } => self.filter_one(machine, &doc, source, sink),
-        }
-    }
-
-    // Filters one document, and takes the next item.
-    fn filter_one<S: Source, K: Sink>(
-        &mut self,
-        machine: &mut Machine,
-        doc: &Doc,
-        source: &mut S,
-        sink: &mut K,
-    ) -> Result<Item, Status>
-        requires ready { IsReady machine.old self.old.journal.changes }
-        ensures serves { ServesItem (items.Document doc.now) result self.old self.new
-            (streams (S.left source.old) (K.held sink.old) (S.faults source.old))
-            (streams (S.left source.new) (K.held sink.new) (S.faults source.new)) }
-        ensures ready { OnOk result (StaysReady machine.old machine.new) }
-        ensures journal { self.new.journal ≡ self.old.journal }
-        ensures write_fault { result ≡ Err Status.WriteFault →
-            Rose (K.faults sink.old) (K.faults sink.new) }
-        ensures source_counts { S.faults source.old ≤ S.faults source.new }
-        ensures sink_counts { K.faults sink.old ≤ K.faults sink.new }
-    {
-        let line = self.line_of(machine, doc);
+        let line = line_of_document(&mut self.tiers, &self.journal, &doc);
         self.reply(line, source, sink)
-    }
-
-    // The line for a document.
-    fn line_of(&self, machine: &mut Machine, doc: &Doc) -> Result<OutLine, AllocError>
-        requires ready { IsReady machine.old self.now.journal.changes }
-        ensures line { (root : Root) → IsOf doc.now root →
-            IfOk result (λ line. Answered (Showing root) self.now.journal.changes
-            self.now.journal.changes line) }
-        ensures ready { OnOk result (StaysReady machine.old machine.new) }
-    {
-        let ids = ids_on(machine, doc)?;
-        Ok(OutLine::Matched {
-            version: self.journal.version(),
-            ids,
-        })
-    }
-
-    // The program of the live filters.
-    fn program(&self) -> Result<Arc<Program>, AllocError>
-        ensures compiled { IfOk result (λ program. IsCompiled (arc_value program)
-            self.now.journal.changes) }
-    {
-        // The history is legal, so the ids rise and the filters are small enough together.
-        let _version = self.journal.version();
-        live_filters_are_in_order();
-        let live = self.journal.snapshot(self.alloc)?;
-        let program = Program::build(self.alloc, live.as_slice())?;
-        Ok(Arc::new(self.alloc, program)?)
     }
 
     // Says the line for the item that was taken last, if there is memory for one, and takes the
@@ -352,6 +248,7 @@ impl Serving {
             (streams (S.left source.new) (K.held sink.new) (S.faults source.new)) }
         ensures spoken { OnOk result (IsOk line) }
         ensures journal { self.new.journal ≡ self.old.journal }
+        ensures tiers { self.new.tiers ≡ self.old.tiers }
         ensures write_fault { result ≡ Err Status.WriteFault →
             Rose (K.faults sink.old) (K.faults sink.new) }
         ensures source_counts { S.faults source.old ≤ S.faults source.new }
@@ -372,6 +269,7 @@ impl Serving {
         ensures says { SaysLine line result self.old self.new (K.held sink.old) (K.held sink.new) }
         ensures spoken { OnOk result (IsOk line) }
         ensures journal { self.new.journal ≡ self.old.journal }
+        ensures tiers { self.new.tiers ≡ self.old.tiers }
         ensures write_fault { result ≡ Err Status.WriteFault →
             Rose (K.faults sink.old) (K.faults sink.new) }
         ensures sink_counts { K.faults sink.old ≤ K.faults sink.new }
@@ -388,6 +286,7 @@ impl Serving {
             (streams (S.left source.old) (K.held sink.old) (S.faults source.old))
             (streams (S.left source.new) (K.held sink.new) (S.faults source.new)) }
         ensures journal { self.new.journal ≡ self.old.journal }
+        ensures tiers { self.new.tiers ≡ self.old.tiers }
         ensures write_fault { result ≡ Err Status.WriteFault →
             Rose (K.faults sink.old) (K.faults sink.new) }
         ensures source_counts { S.faults source.old ≤ S.faults source.new }
@@ -406,6 +305,7 @@ impl Serving {
             (streams (S.left source.old) (K.held sink.old) (S.faults source.old))
             (streams (S.left source.new) (K.held sink.new) (S.faults source.new)) }
         ensures journal { self.new.journal ≡ self.old.journal }
+        ensures tiers { self.new.tiers ≡ self.old.tiers }
         ensures write_fault { result ≡ Err Status.WriteFault →
             Rose (K.faults sink.old) (K.faults sink.new) }
         ensures source_counts { S.faults source.old ≤ S.faults source.new }
@@ -424,6 +324,7 @@ impl Serving {
     fn take_up<K: Sink>(&mut self, found: Taken, sink: &mut K) -> Result<Item, Status>
         ensures takes { TakesUp found result self.old self.new (K.held sink.old) (K.held sink.new) }
         ensures journal { self.new.journal ≡ self.old.journal }
+        ensures tiers { self.new.tiers ≡ self.old.tiers }
         ensures write_fault { result ≡ Err Status.WriteFault →
             Rose (K.faults sink.old) (K.faults sink.new) }
         ensures sink_counts { K.faults sink.old ≤ K.faults sink.new }

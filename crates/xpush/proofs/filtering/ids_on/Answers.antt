@@ -1,21 +1,11 @@
--- The ids of the document, whose events the machine takes.
-use Rattle.std.proofs.Common.{List, [], subst}
-use Rattle.px_reader.specs.declared.event.Event.{Event}
-use Rattle.px_machine.specs.Machines.{HasRun}
-use Rattle.xpush.proofs.Taking.{behind_ids, doc_ids}
+-- The events are those of the tree that the document's bytes spell.
+use Rattle.std.proofs.Common.{sym}
+use Rattle.px_workload.specs.Changes.{history}
+use Rattle.xpush.proofs.Taking.{doc_ids}
 use Rattle.xpush.proofs.filtering.ids_on.Goals as goal
 
-pub take_listed-requires : goal.take_listed-requires
-take_listed-requires c = let ready = c.requires.ready in record { begun = (ready.0, [], ready.1) }
-
-pub finish-requires : goal.finish-requires
-finish-requires c =
-    let ready = c.requires.ready in
-    let tree = c.events.ensures.tree in
-    let P : List Event → Type 0 = λ es. HasRun c.take_listed.new.machine ready.0 es in
-    record { whole = (ready.0, tree.root, subst P tree.events_are (c.in_ok-take_listed.ensures.ok ready.0 [] ready.1)) }
+pub matches-requires : goal.matches-requires
+matches-requires c = let tree = c.events.ensures.tree in record { stand = c.requires.stand; whole = (tree.root, sym tree.events_are) }
 
 pub returns-clause-ids : goal.returns-clause-ids
-returns-clause-ids c =
-    doc_ids c.args.machine.now c.args.doc.now c.events.result.now c.finish.result c.events.ensures.tree
-    (behind_ids c.args.machine.now c.take_listed.new.machine c.events.result.now c.finish.result c.in_ok-take_listed.ensures.ok c.finish.ensures.accepted)
+returns-clause-ids c = doc_ids c.args.doc.now c.events.result.now (history c.args.journal.now.changes) c.matches.result c.events.ensures.tree c.matches.ensures.ids

@@ -1,20 +1,25 @@
--- The line for the change is said.
+-- The tiers are told of the change, and its line is said.
 use Rattle.std.proofs.Common.{refl, ap}
 use Rattle.px_feed.specs.Items.{Adding}
 use Rattle.xpush.specs.Standing.{streams}
 use Rattle.xpush.proofs.FeedLines.{line_of_add}
-use Rattle.xpush.proofs.FeedRefusals.{line_keeps}
+use Rattle.xpush.proofs.Noting.{same_answers, change_kept_up}
 use Rattle.xpush.proofs.serving.Serving.add.Goals as goal
 
 pub returns-clause-serves : goal.returns-clause-serves
 returns-clause-serves g c = λ first least h.
     let old = c.args.self.now in
-    let new = record old { journal = c.add-line.new.journal } in
+    let after = c.add-line.new.journal in
+    let new = record old { journal = after; tiers = c.noted-line.new.tiers } in
+    let answers = same_answers c.add-line.result c.noted-line.result (Adding c.as_slice.result.now) old.journal.changes after.changes c.noted-line.ensures.same c.add-line.ensures in
     let now = streams (g.S.Source.left c.args.source.now) (g.K.Sink.held c.args.sink.now) (g.S.Source.faults c.args.source.now) in
-    c.reply.ensures.replies first least
-    (line_of_add c.args.text c.as_slice.result.now c.add-line.result old new first now least refl refl c.as_slice.ensures.same c.add-line.ensures h)
+    c.reply.ensures.replies first least (line_of_add c.args.text c.as_slice.result.now c.noted-line.result old new first now least refl refl c.as_slice.ensures.same answers h)
 
-pub returns-clause-kept : goal.returns-clause-kept
-returns-clause-kept g c =
-    line_keeps c.add-line.result (Adding c.as_slice.result.now) c.reply.result c.args.self.now.journal.changes c.add-line.new.journal.changes c.reply.new.self.journal.changes
-    (ap (λ j. j.changes) c.reply.ensures.journal) c.add-line.ensures c.reply.ensures.spoken
+pub returns-clause-keeps_up : goal.returns-clause-keeps_up
+returns-clause-keeps_up g c =
+    let old = c.args.self.now in
+    let after = c.add-line.new.journal in
+    let item = Adding c.as_slice.result.now in
+    let answers = same_answers c.add-line.result c.noted-line.result item old.journal.changes after.changes c.noted-line.ensures.same c.add-line.ensures in
+    change_kept_up c.noted-line.result item c.reply.result old.tiers c.noted-line.new.tiers old.journal.changes after.changes c.reply.new.self c.reply.ensures.spoken answers
+    c.noted-line.ensures.stand c.requires.keeps_up c.reply.ensures.tiers (ap (λ j. j.changes) c.reply.ensures.journal)

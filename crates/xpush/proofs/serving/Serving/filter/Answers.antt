@@ -1,15 +1,19 @@
--- For want of memory the run ends with the document in hand.
-use Rattle.px_feed.specs.declared.item.Item.TheVariants as items
+-- The line for the document is said.
+use Rattle.std.proofs.Common.{refl, ap}
 use Rattle.xpush.specs.Standing.{streams}
-use Rattle.xpush.proofs.FeedTaking.{holds_memory}
+use Rattle.xpush.proofs.FeedLines.{line_of_document}
+use Rattle.xpush.proofs.Noting.{kept_up}
 use Rattle.xpush.proofs.serving.Serving.filter.Goals as goal
 
-pub returns-in_default-clause-serves : goal.returns-in_default-clause-serves
-returns-in_default-clause-serves g c = λ first least h.
+pub returns-clause-serves : goal.returns-clause-serves
+returns-clause-serves g c = λ first least h.
+    let old = c.args.self.now in
+    let new = record old { tiers = c.line_of_document-line.new.tiers } in
     let now = streams (g.S.Source.left c.args.source.now) (g.K.Sink.held c.args.sink.now) (g.S.Source.faults c.args.source.now) in
-    holds_memory (items.Document c.args.doc) c.args.self.now first now least h
+    c.reply.ensures.replies first least
+    (line_of_document c.args.doc c.line_of_document-line.result old new first now least refl refl refl c.line_of_document-line.ensures.line h)
 
-pub returns-in_default-new-clause-serves : goal.returns-in_default-new-clause-serves
-returns-in_default-new-clause-serves g c = λ first least h.
-    let now = streams (g.S.Source.left c.args.source.now) (g.K.Sink.held c.args.sink.now) (g.S.Source.faults c.args.source.now) in
-    holds_memory (items.Document c.args.doc) c.args.self.now first now least h
+pub returns-clause-keeps_up : goal.returns-clause-keeps_up
+returns-clause-keeps_up g c =
+    kept_up c.line_of_document-line.result c.reply.result c.line_of_document-line.new.tiers c.args.self.now.journal.changes c.reply.new.self c.reply.ensures.spoken
+    c.line_of_document-line.ensures.stand c.reply.ensures.tiers (ap (λ j. j.changes) c.reply.ensures.journal)

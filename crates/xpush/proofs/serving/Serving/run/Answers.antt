@@ -1,11 +1,16 @@
 -- The first item is taken, and then all are answered.
+use Rattle.std.proofs.Common.{ap}
 use Rattle.xpush.specs.Standing.{streams}
+use Rattle.xpush.proofs.Noting.{still_up}
 use Rattle.xpush.proofs.serving.Serving.run.Goals as goal
 
 pub serve_all-requires : goal.serve_all-requires
 serve_all-requires g c =
     let first = streams (g.S.Source.left c.args.source.now) (g.K.Sink.held c.args.sink.now) (g.S.Source.faults c.args.source.now) in
-    record { held = (first, c.in-Ok.ensures.takes first 0 (c.requires.begun first)) }
+    record {
+      held = (first, c.in-Ok.ensures.takes first 0 (c.requires.begun first));
+      keeps_up = still_up c.args.self.now c.take.new.self (ap (λ j. j.changes) c.take.ensures.journal) c.take.ensures.tiers c.requires.keeps_up;
+    }
 
 pub returns-in-Ok-clause-ended : goal.returns-in-Ok-clause-ended
 returns-in-Ok-clause-ended g c =

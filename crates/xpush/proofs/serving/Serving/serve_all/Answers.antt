@@ -15,6 +15,7 @@ returns-in-Err-clause-write_fault g c = λ e. rose_later _ _ _ c.loop.invariant.
 pub loop-preserved : goal.loop-preserved
 loop-preserved g c = record {
   holds = λ first h. c.in-Ok.ensures.serves first _ (c.loop.invariant.holds first h);
+  keeps_up = c.in-Ok.ensures.keeps_up;
   source_counts = omega (arith, c.loop.invariant.source_counts, c.in-Ok.ensures.source_counts);
   sink_counts = omega (arith, c.loop.invariant.sink_counts, c.in-Ok.ensures.sink_counts);
 }

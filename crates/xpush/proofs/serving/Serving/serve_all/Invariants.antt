@@ -1,6 +1,6 @@
 -- So many items at least were answered, and the next one is in hand.
 use Rattle.std.proofs.Common.{◌≤◌}
-use Rattle.xpush.specs.Standing.{Streams, streams, Holds}
+use Rattle.xpush.specs.Standing.{Streams, streams, Holds, KeepsUp}
 use Rattle.xpush.proofs.serving.Serving.serve_all.Given as goal
 
 abbrev pub invariant-loop : goal.invariant-loop
@@ -9,6 +9,7 @@ invariant-loop g l = record {
       Holds l.initial.item l.initial.self first
       (streams (g.S.Source.left l.initial.source) (g.K.Sink.held l.initial.sink) (g.S.Source.faults l.initial.source)) 0 →
       Holds l.item l.self first (streams (g.S.Source.left l.source) (g.K.Sink.held l.sink) (g.S.Source.faults l.source)) l.counter;
+  keeps_up : KeepsUp l.self;
   source_counts : g.S.Source.faults l.initial.source ≤ g.S.Source.faults l.source;
   sink_counts : g.K.Sink.faults l.initial.sink ≤ g.K.Sink.faults l.sink;
 }
