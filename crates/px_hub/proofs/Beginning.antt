@@ -1,5 +1,5 @@
 -- A hub without changes: what its passes and its desk keep.
-use Rattle.std.proofs.Common.{◌≡◌, ℕ, zero, suc, ◌≤◌, ◌<◌, List, [], ◌∷◌, ◌++◌, get_or, map, replicate, length, refl, sym, ap, ◌∙◌, subst, arith}
+use Rattle.std.proofs.Common.{◌≡◌, ℕ, false, zero, suc, ◌≤◌, ◌<◌, List, [], ◌∷◌, ◌++◌, get_or, map, replicate, length, refl, sym, ap, ◌∙◌, subst, arith}
 use Rattle.std.specs.Prelude.{All}
 use Rattle.std.proofs.lemmas.List.{length-replicate}
 use Rattle.std.specs.Arc.{arc_value}
@@ -15,7 +15,7 @@ use Rattle.px_rule.specs.Table.{TableName, Seated}
 use Rattle.px_hub.specs.declared.at_version.AtVersion.{AtVersion}
 use Rattle.px_hub.specs.declared.home.Home.TheVariants.{Bank}
 use Rattle.px_hub.specs.Beginning.{desk_with, IsNew, AreNew}
-use Rattle.px_hub.specs.AllOfThem.{HoldsEvery}
+use Rattle.px_hub.specs.AllOfThem.{HoldsEvery, AreClosed}
 use Rattle.px_hub.specs.Passes.{PassView, pass_view, IsSeen, AreLiveBehind, IsBuilt, IsPass, IsDesk}
 use Rattle.px_hub.proofs.Machines.{live_of}
 
@@ -36,8 +36,8 @@ all_same P (suc n) a p zero d low = p
 all_same P (suc n) a p (suc k) d low = all_same P n a p k d (omega arith)
 
 pub new_pass : (table at : TableName) (passes number : ℕ) (filters : List Numbered) (c : AtVersion) (w : View Change) → at ≡ table → number < passes → 1 ≤ table.shape.banks → c.version ≡ 0 → IsBuilt [] c → filters ≡ (arc_value c.live).filters
-    → w ≡ whole_pass (desk_with table.shape number) → IsPass table passes at 0 filters c (pass_view number w c.version (Bank 0))
-new_pass table at passes number filters c w at_is low some_bank version k same is = subst (λ (v : View Change). IsPass table passes at 0 filters c (pass_view number v c.version (Bank 0))) (sym is) (record {
+    → w ≡ whole_pass (desk_with table.shape number) → IsPass table passes at 0 filters c (pass_view number w c.version (Bank 0) false)
+new_pass table at passes number filters c w at_is low some_bank version k same is = subst (λ (v : View Change). IsPass table passes at 0 filters c (pass_view number v c.version (Bank 0) false)) (sym is) (record {
   at_table = at_is;
   kind = refl;
   below = low;
@@ -47,7 +47,7 @@ new_pass table at passes number filters c w at_is low some_bank version k same i
   live = subst (λ l. AreLiveBehind [] l) (sym same) (live_of [] c version k);
   built = k;
   home = (omega arith, (0, first_stands table.shape.banks some_bank ∙ ap (λ (n : ℕ). some (0, n)) (sym version)));
-  outside = refl;
+  outside = λ _. refl;
 })
 
 pub new_desk : (table : TableName) (passes : ℕ) (seat : Seated Change) (journal : List Change) (versions : List ℕ) (c : AtVersion) → seat.table ≡ table → seat.view ≡ desk_with table.shape passes → journal ≡ []
@@ -82,3 +82,7 @@ new_more ps now p n is long old new = subst (λ l. AreNew l) (sym is) (snoc_each
 -- passes with numbers in order are all passes
 pub every_new : (passes : ℕ) (ps : List PassView) → length ps ≡ passes → AreNew ps → HoldsEvery passes ps
 every_new passes ps long new k low = (k, omega arith, λ d. (new k d (omega arith)).0)
+
+-- with no call open
+pub closed_new : (ps : List PassView) → AreNew ps → AreClosed ps
+closed_new ps new k d low = (new k d low).5

@@ -10,7 +10,7 @@ use Rattle.px_rule.proofs.Beginnings.{named_own}
 use Rattle.px_hub.specs.Entries.{who_of}
 use Rattle.px_hub.specs.Passes.{PassView}
 use Rattle.px_hub.specs.Calls.{Refreshed, seen_of}
-use Rattle.px_hub.specs.AllOfThem.{HoldsEvery, AllRefreshed, SomeRefreshed, RefreshedAt}
+use Rattle.px_hub.specs.AllOfThem.{HoldsEvery, AreClosed, AllRefreshed, SomeRefreshed, RefreshedAt}
 
 module _ {A : Type 0} where
   -- a list is empty or has a last element
@@ -86,6 +86,15 @@ module _ (banks passes : ℕ) (log : List Change) where
       | false ↦ (λ e. let behind = leb-false (suc k) at e in inl (s.rest k d (omega arith)))
     ] refl;
   }
+
+  -- no call is open on any of them
+  pub closed_yet : (at : ℕ) (vs ws : List PassView) → Sofar banks passes log at vs ws → AreClosed vs → AreClosed ws
+  closed_yet at vs ws s closed k d low =
+      let there : k < length vs = let same = s.as_many in omega arith in
+      elim (leb (suc k) at) as (λ b. leb (suc k) at ≡ b → (get_or ws k d).is_open ≡ false) [
+        | true ↦ (λ e. let before = leb-true (suc k) at e in (s.done k d (omega arith) there).0.closed)
+        | false ↦ (λ e. let behind = leb-false (suc k) at e in ap (λ (p : PassView). p.is_open) (s.rest k d (omega arith)) ∙ closed k d there)
+      ] refl
 
   -- a pass had seen all before
   had_all : (vs ws : List PassView) → Sofar banks passes log (length vs) vs ws → HoldsEvery passes vs → 0 < length vs → (k : ℕ) × (k < length vs) × ((d : PassView) → length (seen_of (get_or vs k d)) ≡ length log)

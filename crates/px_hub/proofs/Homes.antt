@@ -1,5 +1,5 @@
 -- What a refresh gives a pass.
-use Rattle.std.proofs.Common.{◌≡◌, ℕ, true, ◌+◌, ◌<◌, List, ◌++◌, length, refl, sym, ap, ◌∙◌, subst, arith}
+use Rattle.std.proofs.Common.{◌≡◌, ℕ, true, false, ◌+◌, ◌<◌, List, ◌++◌, length, refl, sym, ap, ◌∙◌, subst, arith}
 use Rattle.std.specs.Prelude.{All}
 use mathlib.Core.Option.{some}
 use lib.ListN.{get_elem?}
@@ -71,13 +71,13 @@ found_home banks loads v w (NoBank words) more f = (f.0, λ k word at. let r = f
 -- p is a pass, d what the desk knows of the banks once it gave it one, and w what the pass knows then
 module _ (table at at' : TableName) (passes version version' : ℕ) (filters filters' : List Numbered) (c c' : AtVersion) (p : PassView) (d : Stay) (w : View Change) (home : Home) where
   abbrev after : PassView
-  after = pass_view p.number w c'.version home
+  after = pass_view p.number w c'.version home p.is_open
 
   pub refreshes : (found made : ℕ) (log : List Change) (versions : List ℕ) → IsPass table passes at version filters c p → GivesHome versions (length log) (number_of p.view.past.kind) (p.view.past.loads + 1) table.shape.banks d home
       → Settled who_of (λ h. IsLegal (history h)) log made d (record p.view { past = loaded p.view.past found }) w
-      → made ≡ passes → at' ≡ table → version' ≡ length log → AreLiveBehind log filters' → c'.version ≡ length log → IsBuilt log c'
+      → made ≡ passes → at' ≡ table → version' ≡ length log → AreLiveBehind log filters' → c'.version ≡ length log → IsBuilt log c' → p.is_open ≡ false
       → IsPass table passes at' version' filters' c' after × Refreshed table.shape.banks version' p after
-  refreshes found made log versions i gives s made_is at_is version_is live have built =
+  refreshes found made log versions i gives s made_is at_is version_is live have built closed =
       let v : View Change = record p.view { past = loaded p.view.past found } in
       let m : Came who_of p.number v w = came who_of (λ h. IsLegal (history h)) p.number made log d v w i.kind i.own s in
       let long : length w.past.seen ≡ length log = ap length s.seen in
@@ -97,7 +97,7 @@ module _ (table at at' : TableName) (passes version version' : ℕ) (filters fil
           live = subst (λ l. AreLiveBehind l filters') (sym s.seen) live;
           built = subst (λ l. IsBuilt l c') (sym s.seen) built;
           home = subst (λ (n : ℕ). IsHome table.shape.banks p.number n w home) (sym have) (home_is table.shape.banks p.number (length log) (p.view.past.loads + 1) w home at);
-          outside = s.place ∙ i.outside;
+          outside = λ c. s.place ∙ i.outside c;
         },
         record {
           came = record { number = refl; others = m.others; of_others = m.of_others; seen = m.seen; mine = s.mine; own = m.own };
@@ -106,7 +106,8 @@ module _ (table at at' : TableName) (passes version version' : ℕ) (filters fil
           loads = let more = s.loads in omega arith;
           last = s.last ∙ sym version_is;
           home = found_home table.shape.banks (p.view.past.loads + 1) p after home (omega arith) (subst (λ (n : ℕ). FoundAt table.shape.banks p.number n (p.view.past.loads + 1) w home) (sym long) at);
-          outside = s.place ∙ i.outside;
+          closed = closed;
+          outside = s.place ∙ i.outside closed;
           enters = s.enters;
           touch = s.touch;
         },

@@ -43,6 +43,7 @@ built_grows xs ys c b k =
       within = let l = begins_length xs ys b in let w = k.within in omega arith;
       live = subst (λ l. AreLiveBehind l (arc_value c.live).filters) (sym same) k.live;
       program = k.program ∙ ap (λ l. program (history l)) (sym same);
+      compiled = k.compiled ∙ ap (λ l. program (history l)) (sym same);
     }
 
 -- a bank, or its lack, lasts while stays and busy entries are added at the front
@@ -57,7 +58,7 @@ home_grows banks number n v w (NoBank words) front more stays busy s =
 -- p is a pass, w what it knows after a call
 module _ (table at at' : TableName) (passes version version' : ℕ) (filters filters' : List Numbered) (c : AtVersion) (p : PassView) (w : View Change) where
   abbrev after : PassView
-  after = pass_view p.number w p.have p.home
+  after = pass_view p.number w p.have p.home p.is_open
 
   -- What holds of a pass holds of it once it has caught up: v is the pass as it was then, perhaps with one entry asked for
   settled_pass : (log : List Change) (made : ℕ) (banks : Stay) (v : View Change) → IsPass table passes at version filters c p → v.past.kind ≡ p.view.past.kind → v.past.seen ≡ p.view.past.seen → v.stay ≡ p.view.stay
@@ -76,7 +77,7 @@ module _ (table at at' : TableName) (passes version version' : ℕ) (filters fil
     live = subst (λ l. AreLiveBehind l filters') (sym s.seen) live;
     built = subst (λ l. IsBuilt l c) (sym s.seen) (built_grows p.view.past.seen log c (subst (λ l. Begins l log) seen s.before) i.built);
     home = home_grows table.shape.banks p.number p.have p.view w p.home (standing 0 banks.stands) banks.busy (s.stays ∙ ap (λ l. standing 0 banks.stands ++ l.stays) stay) (s.busy ∙ ap (λ l. banks.busy ++ l.busy) stay) i.home;
-    outside = s.place ∙ (ap (λ l. l.place) stay ∙ i.outside);
+    outside = λ closed. s.place ∙ (ap (λ l. l.place) stay ∙ i.outside closed);
   }
 
   -- the pass has caught up
@@ -87,7 +88,7 @@ module _ (table at at' : TableName) (passes version version' : ℕ) (filters fil
         settled_pass log made banks p.view i refl refl refl s made_is at_is version_is live m.own,
         record {
           came = record { number = refl; others = m.others; of_others = m.of_others; seen = m.seen; mine = s.mine; own = m.own };
-          machine = record { have = refl; home = refl; place = s.place; enters = s.enters; touch = s.touch };
+          machine = record { have = refl; home = refl; is_open = refl; place = s.place; enters = s.enters; touch = s.touch };
           loads = s.loads;
           last = s.last ∙ ap length (sym s.seen);
         },
@@ -108,7 +109,7 @@ module _ (table at at' : TableName) (passes version version' : ℕ) (filters fil
           mine = s.mine;
           own = m.own;
           version_is = version_is ∙ ap length (sym s.seen);
-          machine = record { have = refl; home = refl; place = s.place; enters = s.enters; touch = s.touch };
+          machine = record { have = refl; home = refl; is_open = refl; place = s.place; enters = s.enters; touch = s.touch };
         },
       )
 

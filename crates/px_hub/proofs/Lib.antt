@@ -12,3 +12,8 @@ pub mod Meeting
 pub mod Beginning
 pub mod Gathered
 pub mod Again
+pub mod Counting
+pub mod Entering
+pub mod Opening
+pub mod Ending
+pub mod Refusing

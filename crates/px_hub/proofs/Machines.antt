@@ -26,15 +26,16 @@ are_live seen filters changes same are rising small =
     subst P (sym (ap subscriptions same ∙ are)) (record { ids_rise = rises (map (λ s. s.id) (live (history changes))) rising; few = small })
 
 -- what was built is the machine of all changes
-pub is_built : (changes : List Change) (c : AtVersion) → c.version ≡ length changes → AreLiveBehind changes (arc_value c.live).filters → arc_value c.compiled ≡ program (history changes)
+pub is_built : (changes : List Change) (c : AtVersion) → c.version ≡ length changes → AreLiveBehind changes (arc_value c.live).filters → arc_value c.program ≡ program (history changes) → arc_value c.compiled ≡ arc_value c.program
     → (c.version ≡ length changes) × IsBuilt changes c
-is_built changes c version are is =
+is_built changes c version are is same =
     let whole : take c.version changes ≡ changes = ap (λ (n : ℕ). take n changes) version ∙ take_whole changes in (
       version,
       record {
         within = omega arith;
         live = subst (λ l. AreLiveBehind l (arc_value c.live).filters) (sym whole) are;
         program = is ∙ ap (λ l. program (history l)) (sym whole);
+        compiled = same ∙ (is ∙ ap (λ l. program (history l)) (sym whole));
       },
     )
 

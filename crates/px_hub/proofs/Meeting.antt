@@ -35,9 +35,9 @@ module _ (table at at' : TableName) (passes version version' : ℕ) (filters fil
 
   pub meets : (w : View Change) (seen : List Change) → IsPass table passes at version filters c p → w ≡ met → IsTold who_of (λ h. IsLegal (history h)) met → IsMet p.view u met
       → longer p.view.past.seen u.past.seen ≡ seen → ((seen ≡ p.view.past.seen) ⊎ (seen ≡ u.past.seen)) → at' ≡ table → IsSeen passes seen → version' ≡ length seen → AreLiveBehind seen filters'
-      → IsPass table passes at' version' filters' c (pass_view p.number w p.have p.home) × Met u.past.seen p (pass_view p.number w p.have p.home)
+      → IsPass table passes at' version' filters' c (pass_view p.number w p.have p.home p.is_open) × Met u.past.seen p (pass_view p.number w p.have p.home p.is_open)
   meets w seen i w_is told both is which at_is is_seen version_is live =
-      subst (λ (y : View Change). IsPass table passes at' version' filters' c (pass_view p.number y p.have p.home) × Met u.past.seen p (pass_view p.number y p.have p.home)) (sym w_is) (
+      subst (λ (y : View Change). IsPass table passes at' version' filters' c (pass_view p.number y p.have p.home p.is_open) × Met u.past.seen p (pass_view p.number y p.have p.home p.is_open)) (sym w_is) (
         record {
           at_table = at_is;
           kind = i.kind;
@@ -57,6 +57,6 @@ module _ (table at at' : TableName) (passes version version' : ℕ) (filters fil
           before = both.0;
           noted = both.1;
           longer = subst (λ l. (l ≡ p.view.past.seen) ⊎ (l ≡ u.past.seen)) (sym is) which;
-          machine = record { have = refl; home = refl; place = refl; enters = refl; touch = refl };
+          machine = record { have = refl; home = refl; is_open = refl; place = refl; enters = refl; touch = refl };
         },
       )

@@ -1,5 +1,5 @@
 -- What a refresh of all passes of a hub makes of them.
-use Rattle.std.specs.Prelude.{◌≡◌, ℕ, ◌<◌, ◌≤◌, ◌⊎◌, List, length, slice_index_or, slice_set, All}
+use Rattle.std.specs.Prelude.{◌≡◌, ℕ, ◌<◌, ◌≤◌, ◌⊎◌, false, List, length, slice_index_or, slice_set, All}
 use Rattle.px_workload.specs.declared.change.Change.{Change}
 use Rattle.px_hub.specs.Entries.{who_of}
 use Rattle.px_hub.specs.Passes.{PassView}
@@ -8,6 +8,10 @@ use Rattle.px_hub.specs.Calls.{Refreshed, seen_of}
 -- each pass of the hub is among them
 abbrev pub HoldsEvery : ℕ → List PassView → Type 0
 HoldsEvery passes ps = (n : ℕ) → n < passes → (k : ℕ) × (k < length ps) × ((d : PassView) → (slice_index_or ps k d).number ≡ n)
+
+-- no call is open on any of them
+abbrev pub AreClosed : List PassView → Type 0
+AreClosed ps = (k : ℕ) (d : PassView) → k < length ps → (slice_index_or ps k d).is_open ≡ false
 
 -- Each is refreshed, all have seen the same, and that is the most that one of them had seen before
 pub record AllRefreshed (banks version : ℕ) (vs ws : List PassView) : Type 0 where

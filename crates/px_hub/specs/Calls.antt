@@ -1,5 +1,5 @@
 -- What the calls of a hub make of a pass.
-use Rattle.std.specs.Prelude.{◌≡◌, ℕ, ◌+◌, ◌<◌, ◌≤◌, ◌⊎◌, List, [], ◌∷◌, ◌++◌, length, Result, Ok, Err}
+use Rattle.std.specs.Prelude.{◌≡◌, ℕ, ◌+◌, ◌<◌, ◌≤◌, ◌⊎◌, false, List, [], ◌∷◌, ◌++◌, length, Result, Ok, Err}
 use mathlib.Core.Option.{some}
 use lib.ListN.{get_elem?}
 use Rattle.px_xpath.specs.declared.filter.Filter.{Filter as Filtering}
@@ -27,10 +27,11 @@ use Rattle.px_hub.specs.Passes.{PassView, IsBusyFor}
 abbrev pub seen_of : PassView → List Change
 seen_of p = p.view.past.seen
 
--- The program, the bank, where the pass is, and what it knows of places and of its entries of banks are as before
+-- The program, the bank, whether a call is open, where the pass is, and what it knows of places and of its entries of banks are as before
 pub record SameMachine (v w : PassView) : Type 0 where
   pub have : w.have ≡ v.have
   pub home : w.home ≡ v.home
+  pub is_open : w.is_open ≡ v.is_open
   pub place : w.view.stay.place ≡ v.view.stay.place
   pub enters : w.view.stay.enters ≡ v.view.stay.enters
   pub touch : w.view.touch ≡ v.view.touch
@@ -118,7 +119,7 @@ FoundHome banks v w (Bank k) = (k < banks) × ((i : ℕ) × (get_elem? w.view.st
 FoundHome banks v w (NoBank words) = (length words ≡ banks) × ((k word : ℕ) → get_elem? words k ≡ some word
     → (i : ℕ) × (e : Busy) × (get_elem? w.view.stay.busy i ≡ some e) × IsBusyFor w.number k (length (seen_of w)) word e × (v.view.past.loads < e.loads))
 
--- `refresh`: the pass has the newest version, its program and a bank or none, and was in no bank
+-- `refresh`: the pass has the newest version, its program and a bank or none, and is in no bank
 pub record Refreshed (banks version : ℕ) (v w : PassView) : Type 0 where
   pub came : CameOthers v w
   pub version_is : version ≡ length (seen_of w)
@@ -126,6 +127,7 @@ pub record Refreshed (banks version : ℕ) (v w : PassView) : Type 0 where
   pub loads : v.view.past.loads < w.view.past.loads
   pub last : w.view.past.last ≡ version
   pub home : FoundHome banks v w w.home
+  pub closed : w.is_open ≡ false
   pub outside : w.view.stay.place ≡ Outside
   pub enters : w.view.stay.enters ≡ v.view.stay.enters
   pub touch : w.view.touch ≡ v.view.touch

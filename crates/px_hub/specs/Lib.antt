@@ -7,3 +7,5 @@ pub mod Banking
 pub mod Beginning
 pub mod AllOfThem
 pub mod Replying
+pub mod Counting
+pub mod OpenCalls

@@ -1,6 +1,6 @@
 -- What contracts see of a pass and of the desk, and what a pass, a note and the desk keep.
-use Rattle.std.specs.Prelude.{◌≡◌, ℕ, ◌<◌, ◌≤◌, true, List, take, length, All, None, refl}
-use Rattle.std.specs.Coded.{Coded, code_by, coded×, coded_ℕ}
+use Rattle.std.specs.Prelude.{◌≡◌, ℕ, ◌<◌, ◌≤◌, Bool, true, false, List, take, length, All, None, refl}
+use Rattle.std.specs.Coded.{Coded, code_by, coded×, coded_ℕ, coded_bool}
 use mathlib.Core.Option.{some}
 use lib.ListN.{get_elem?}
 use Rattle.px_xpath.specs.declared.numbered.Numbered.{Numbered}
@@ -29,21 +29,22 @@ use Rattle.px_hub.specs.Banking.{AreStands}
 abbrev pub view_code : Coded (View Change)
 view_code = (view_row change_row).coded
 
--- A pass: its number, what it knows, the version of its program, and its bank
+-- A pass: its number, what it knows, the version of its program, its bank, and whether a call that filters is open on it
 pub record PassView : Type 0 where
   pub number : ℕ
   pub view : View Change
   pub have : ℕ
   pub home : Home
+  pub is_open : Bool
 
 -- it is stored as the pair of its fields
 abbrev pub pass_code : Coded PassView
 pass_code =
-    code_by (ℕ × (View Change × (ℕ × Home))) (coded× coded_ℕ (coded× view_code (coded× coded_ℕ home_row.coded)))
-    (λ v. (v.number, (v.view, (v.have, v.home)))) (λ p. record { number = p.0; view = p.1.0; have = p.1.1.0; home = p.1.1.1 }) (λ _. refl)
+    code_by (ℕ × (View Change × (ℕ × (Home × Bool)))) (coded× coded_ℕ (coded× view_code (coded× coded_ℕ (coded× home_row.coded coded_bool))))
+    (λ v. (v.number, (v.view, (v.have, (v.home, v.is_open))))) (λ p. record { number = p.0; view = p.1.0; have = p.1.1.0; home = p.1.1.1.0; is_open = p.1.1.1.1 }) (λ _. refl)
 
-abbrev pub pass_view : ℕ → View Change → ℕ → Home → PassView
-pass_view number view have home = record { number = number; view = view; have = have; home = home }
+abbrev pub pass_view : ℕ → View Change → ℕ → Home → Bool → PassView
+pass_view number view have home is_open = record { number = number; view = view; have = have; home = home; is_open = is_open }
 
 -- The changes name passes of the hub, and are a legal history
 pub record IsSeen (passes : ℕ) (seen : List Change) : Type 0 where
@@ -58,7 +59,8 @@ AreLiveBehind seen filters = subscriptions filters ≡ live (history seen)
 pub record IsBuilt (seen : List Change) (c : AtVersion) : Type 0 where
   pub within : c.version ≤ length seen
   pub live : AreLiveBehind (take c.version seen) (arc_value c.live).filters
-  pub program : arc_value c.compiled ≡ program (history (take c.version seen))
+  pub compiled : arc_value c.compiled ≡ program (history (take c.version seen))
+  pub program : arc_value c.program ≡ program (history (take c.version seen))
 
 -- a claim of bank k for version n found the word, and was made for this pass
 abbrev pub IsBusyFor : ℕ → ℕ → ℕ → ℕ → Busy → Type 0
@@ -81,7 +83,7 @@ pub record IsPass (table : TableName) (passes : ℕ) (at : TableName) (version :
   pub live : AreLiveBehind p.view.past.seen filters
   pub built : IsBuilt p.view.past.seen c
   pub home : IsHome table.shape.banks p.number p.have p.view p.home
-  pub outside : p.view.stay.place ≡ Outside
+  pub outside : p.is_open ≡ false → p.view.stay.place ≡ Outside
 
 -- What holds of every note
 pub record IsNote (table : TableName) (passes : ℕ) (seat : Seated Change) (version : ℕ) (filters : List Numbered) : Type 0 where

@@ -1,5 +1,5 @@
 -- What a call that filters a document answers, and what it makes of its pass. Everywhere v is the pass before the call, and w the pass after it.
-use Rattle.std.specs.Prelude.{◌≡◌, ◌≢◌, ℕ, ◌+◌, ◌<◌, ◌⊎◌, true, List, [], ◌++◌, length, Result, Ok, Err, Option, Some, None}
+use Rattle.std.specs.Prelude.{◌≡◌, ◌≢◌, ℕ, ◌+◌, ◌<◌, ◌⊎◌, true, false, List, [], ◌++◌, length, Result, Ok, Err, Option, Some, None}
 use Rattle.px_text.specs.Nodes.{Root}
 use Rattle.px_reader.specs.declared.event.Event.{Event}
 use Rattle.px_reader.specs.declared.fault.DocFault.{DocFault}
@@ -47,9 +47,10 @@ pub record SamePass (v w : PassView) : Type 0 where
   pub home : w.home ≡ v.home
   pub since : (n : ℕ) → Since n v.view w.view
 
--- And it is in no bank
+-- And it is in no bank, with no call open
 pub record Stays (v w : PassView) : Type 0 where
   pub same : SamePass v w
+  pub closed : w.is_open ≡ false
   pub outside : w.view.stay.place ≡ Outside
 
 -- the pass was counted in at a bank once more, where it found the word

@@ -1,4 +1,5 @@
 //! The machine of one version.
+use px_afa::Program;
 use px_prune::Compiled;
 use px_workload::Live;
 use std::sync::Arc;
@@ -8,5 +9,6 @@ use std::sync::Arc;
 pub(crate) struct AtVersion {
     pub(crate) version: u32,
     pub(crate) live: Arc<Live>,
+    pub(crate) program: Arc<Program>,
     pub(crate) compiled: Arc<Compiled>,
 }

@@ -1,7 +1,7 @@
 //! The calls of a hub.
-ghost use Rattle.std.specs.Prelude.{◌≡◌, IfOk, OnErr};
+ghost use Rattle.std.specs.Prelude.{◌≡◌, false, IfOk, OnErr};
 ghost use Rattle.px_hub.specs.Calls.{Subscribed, Unsubscribed, Replaced, Refreshed, Met, seen_of};
-ghost use Rattle.px_hub.specs.AllOfThem.{HoldsEvery, AllRefreshed, SomeRefreshed};
+ghost use Rattle.px_hub.specs.AllOfThem.{HoldsEvery, AreClosed, AllRefreshed, SomeRefreshed};
 
 use crate::desk::Desk;
 use crate::exchange::take_in;
@@ -33,6 +33,7 @@ impl<N: HubName> Hub<N> {
         pass: &mut Pass<N>,
         filter: &[u8],
     ) -> Result<u32, SubscribeFault>
+        requires { pass.old.is_open ≡ false }
         ensures { Subscribed filter.now pass.old pass.new result }
     {
         match parse(self.alloc, filter) {
@@ -52,6 +53,7 @@ impl<N: HubName> Hub<N> {
         pass: &mut Pass<N>,
         id: u32,
     ) -> Result<u32, UnsubscribeFault>
+        requires { pass.old.is_open ≡ false }
         ensures { Unsubscribed id pass.old pass.new result }
     {
         self.desk
@@ -68,6 +70,7 @@ impl<N: HubName> Hub<N> {
         id: u32,
         filter: &[u8],
     ) -> Result<u32, ReplaceFault>
+        requires { pass.old.is_open ≡ false }
         ensures { Replaced filter.now id pass.old pass.new result }
     {
         match parse(self.alloc, filter) {
@@ -82,6 +85,7 @@ impl<N: HubName> Hub<N> {
 
     /// Gives the pass the newest version, its program and its bank, and answers the version.
     pub fn refresh(&self, rt: &impl Wait, pass: &mut Pass<N>) -> Result<u32, AllocError>
+        requires { pass.old.is_open ≡ false }
         ensures refreshed { IfOk result
             (λ version. Refreshed N.table.shape.banks version pass.old pass.new) }
         ensures memory { OnErr result (pass.new ≡ pass.old) }
@@ -93,6 +97,7 @@ impl<N: HubName> Hub<N> {
     /// Where memory is refused, some may be refreshed.
     pub fn refresh_all(&self, rt: &impl Wait, passes: &mut [Pass<N>]) -> Result<u32, AllocError>
         requires every { HoldsEvery N.passes passes.old }
+        requires closed { AreClosed passes.old }
         ensures refreshed { IfOk result
             (λ version. AllRefreshed N.table.shape.banks version passes.old passes.new) }
         ensures memory { OnErr result (SomeRefreshed N.table.shape.banks passes.old passes.new) }
@@ -104,6 +109,7 @@ impl<N: HubName> Hub<N> {
 
     /// Copies what the pass has seen. Its only failure is want of memory.
     pub fn note(&self, pass: &mut Pass<N>) -> Result<Note<N>, AllocError>
+        requires { pass.old.is_open ≡ false }
         ensures note { IfOk result (λ note. note ≡ seen_of pass.old) }
         ensures same { pass.new ≡ pass.old }
     {
@@ -120,6 +126,7 @@ impl<N: HubName> Hub<N> {
     /// Gives the pass the longer of the two histories. It takes no memory, and leaves the program
     /// as it is.
     pub fn meet(&self, pass: &mut Pass<N>, note: Note<N>)
+        requires { pass.old.is_open ≡ false }
         ensures { Met note pass.old pass.new }
     {
         let Note {

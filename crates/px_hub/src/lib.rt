@@ -40,46 +40,73 @@
 //! makes [`Parts`], hands them to a function of its own that is generic in a name, with std's
 //! `Brand` for it, and that calls [`Hub::create`].
 //!
-//! **What a call that filters is to answer.** A [`Reply`] has the ids that match at the version of
-//! the pass, and counts by whom the steps were made; [`Why`] names the first cause that holds for
-//! steps that are the call's own. `specs/Replying.antt` ties a reply, or the fault of the bytes, to
-//! the pass before and after (`Filters`): which bank it entered and what word it found there, what
-//! its view shows of each step, and that only words of the document's run were written. A document
-//! whose steps all stood in the bank is found again ([`a_settled_document_is_found_again`]). No
-//! call states it yet.
+//! **A document** ([`Hub::filter`]) is filtered at the version that its pass has reached: with
+//! exactly the filters that are live there, whose ids the [`Reply`] lists. It takes no lock and
+//! waits for nobody. The pass enters its bank, makes each step of the machine there (px_call),
+//! and leaves it on every answer. Where no bank serves it, a machine of its own makes all steps:
+//!
+//! ```text
+//!   Why          the steps                          when
+//!   Unsettled    all are the call's own             the program is of another version
+//!   NoBank       all are the call's own             the last refresh found calls inside all banks
+//!   Gone         all are the call's own             the bank was found at a later version
+//!   Full         some are the call's own            the bank had no place for a word
+//!   Settled      each was found, or computed and    none of these
+//!                stands in the bank since
+//! ```
+//!
+//! `specs/Replying.antt` ties a reply, or the fault of the bytes, to the pass before and after
+//! (`Filters`): its counts add up to the steps of the document's run; which bank it entered and
+//! what word it found there; what its view shows of each step; and that only words of the
+//! document's run were written. A document whose steps all stood in the bank is found again
+//! ([`a_settled_document_is_found_again`]).
+//!
+//! **An open call** takes the events of a document one by one ([`Hub::begin`], [`Hub::advance`]),
+//! and then answers as `filter` does ([`Hub::finish`]) or leaves ([`Hub::abandon`]). The pass stays
+//! inside its bank, and is refused by every other call meanwhile ([`Pass::is_open`] tells).
+//! `specs/OpenCalls.antt` says what a call has taken, and [`an_open_call_counts_its_steps`] what
+//! follows.
 //!
 //! Not said: which of two changes at the same time is first, that a claim succeeds, or anything of
-//! waiting. To come: that the types may cross threads (`Send`, `Sync`), which no proof shows yet,
-//! and the calls that filter a document.
+//! waiting. To come: that the types may cross threads (`Send`, `Sync`), which no proof shows yet.
 #![tactic(auto)]
 
+mod alone;
 mod at_version;
 mod banks;
+mod call;
 mod changes;
 mod config;
 mod desk;
+mod engine;
+mod entrance;
 mod exchange;
 mod faults;
+mod filtering;
 mod home;
 mod hub;
 mod law;
 mod laws;
+mod lone;
 mod machine;
 mod name;
 mod note;
+mod open_calls;
 mod parts;
 mod pass;
 mod reply;
+mod server;
 #[cfg(test)]
 mod tests;
 mod together;
 
+pub use call::Call;
 pub use config::Config;
 pub use faults::{ReplaceFault, SubscribeFault, UnsubscribeFault};
 pub use home::Home;
 pub use hub::Hub;
 pub use law::Workload;
-pub use laws::a_settled_document_is_found_again;
+pub use laws::{a_settled_document_is_found_again, an_open_call_counts_its_steps};
 pub use name::HubName;
 pub use note::Note;
 pub use parts::Parts;

@@ -1,5 +1,5 @@
 //! The machine of the newest version, and a refresh, under the lock.
-ghost use Rattle.std.specs.Prelude.{◌≡◌, ◌<◌, All, length, IfOk, OnOk, OnErr};
+ghost use Rattle.std.specs.Prelude.{◌≡◌, ◌<◌, false, All, length, IfOk, OnOk, OnErr};
 ghost use Rattle.std.specs.Arc.{arc_value};
 ghost use Rattle.px_hub.specs.Entries.{who_of};
 ghost use Rattle.px_hub.specs.Passes.{IsBuilt};
@@ -27,13 +27,14 @@ pub(crate) fn build(alloc: Global, journal: &Journal) -> Result<Arc<AtVersion>, 
     let live = journal.snapshot(alloc)?;
     live_filters_are_in_order();
     let program = Arc::new(alloc, Program::build(alloc, live.as_slice())?)?;
-    let compiled = Compiled::of(alloc, program)?;
+    let compiled = Compiled::of(alloc, Arc::try_clone(&program)?)?;
     let live = Arc::new(alloc, live)?;
     Ok(Arc::new(
         alloc,
         AtVersion {
             version,
             live,
+            program,
             compiled,
         },
     )?)
@@ -61,6 +62,7 @@ impl<N: HubName> Desk<N> {
         pass: &mut Pass<N>,
     ) -> Result<u32, AllocError>
         requires table { shared.now ≡ N.table }
+        requires closed { pass.old.is_open ≡ false }
         ensures refreshed { IfOk result
             (λ version. Refreshed N.table.shape.banks version pass.old pass.new) }
         ensures desk { self.new.past.seen ≡ self.old.past.seen }

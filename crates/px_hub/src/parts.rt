@@ -5,7 +5,7 @@ ghost use Rattle.px_rule.specs.Steps.{opening_view};
 ghost use Rattle.px_hub.specs.Names.{IsValid, shape_of};
 ghost use Rattle.px_hub.specs.Passes.{IsBuilt};
 ghost use Rattle.px_hub.specs.Beginning.{desk_with, IsNew, AreNew};
-ghost use Rattle.px_hub.specs.AllOfThem.{HoldsEvery};
+ghost use Rattle.px_hub.specs.AllOfThem.{HoldsEvery, AreClosed};
 
 use crate::at_version::AtVersion;
 use crate::config::Config;
@@ -81,6 +81,7 @@ fn enroll<N: HubName>(
         live,
         built,
         home: Home::Bank(0),
+        is_open: false,
         of: PhantomData,
     })
 }
@@ -114,6 +115,7 @@ impl<N: HubName> Hub<N> {
         requires passes { N.passes ≡ parts.passes }
         ensures new { IfOk result (λ h. (vec_len h.1 ≡ parts.passes) × AreNew h.1.items) }
         ensures every { IfOk result (λ h. HoldsEvery N.passes h.1.items) }
+        ensures closed { IfOk result (λ h. AreClosed h.1.items) }
     {
         let Parts {
             alloc,

@@ -1,8 +1,9 @@
 //! The token with which a caller uses a hub.
-ghost use Rattle.std.specs.Prelude.{◌≡◌, ◌<◌, All, length};
+ghost use Rattle.std.specs.Prelude.{◌≡◌, ◌<◌, false, All, length};
 ghost use Rattle.px_xpath.specs.Histories.{live, IsLegal};
 ghost use Rattle.px_xpath.specs.Subscribed.{subscriptions};
 ghost use Rattle.px_workload.specs.Changes.{history};
+ghost use Rattle.px_rule.specs.declared.view.Place.TheVariants.{Outside};
 ghost use Rattle.px_rule.specs.Histories.{named};
 ghost use Rattle.px_hub.specs.Entries.{who_of};
 
@@ -16,7 +17,7 @@ use std::marker::{Model, PhantomData};
 use std::sync::Arc;
 
 /// With it a caller uses a hub. Contracts see its number, what it knows, the version of its
-/// program, and its bank.
+/// program, its bank, and whether a call that filters is open on it.
 #[derive(Drop)]
 pub struct Pass<N: HubName> {
     pub(crate) number: u32,
@@ -26,6 +27,8 @@ pub struct Pass<N: HubName> {
     pub(crate) live: Arc<Live>,
     pub(crate) built: Arc<AtVersion>,
     pub(crate) home: Home,
+    // whether a call that filters is open
+    pub(crate) is_open: bool,
     pub(crate) of: PhantomData<N>,
 }
 
@@ -37,11 +40,12 @@ impl<N: HubName> Model for Pass<N> {
 
     ghost coded = { pass_code };
 
-    ghost view = { λ p. pass_view p.number p.seat.view (arc_value p.built).version p.home };
+    ghost view = { λ p. pass_view p.number p.seat.view (arc_value p.built).version p.home
+        p.is_open };
 
     ghost invariant = { λ p. IsPass N.table N.passes p.seat.table p.version
         (arc_value p.live).filters (arc_value p.built)
-        (pass_view p.number p.seat.view (arc_value p.built).version p.home) };
+        (pass_view p.number p.seat.view (arc_value p.built).version p.home p.is_open) };
 }
 
 impl<N: HubName> Pass<N> {
@@ -65,8 +69,24 @@ impl<N: HubName> Pass<N> {
         self.number
     }
 
+    /// Whether a call that filters is open. Then no other call takes the pass.
+    pub fn is_open(&self) -> bool
+        ensures { result ≡ self.now.is_open }
+    {
+        self.is_open
+    }
+
+    /// A pass with no call open is in no bank.
+    pub(crate) fn is_in_no_bank(&self)
+        requires { self.now.is_open ≡ false }
+        ensures { self.now.view.stay.place ≡ Outside }
+    {
+        let _ = &self.is_open;
+    }
+
     /// The filters that are live behind what it has seen.
     pub fn live(&self) -> &Live
+        requires { self.now.is_open ≡ false }
         ensures { subscriptions result.now.filters ≡ live (history self.now.view.past.seen) }
     {
         &self.live

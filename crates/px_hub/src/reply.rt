@@ -5,7 +5,7 @@ use std::alloc::AllocError;
 use thiserror::Error;
 
 /// The filters that hold of a document, and how the steps were come by that showed it.
-#[derive(Debug, Drop)]
+#[derive(Debug, PartialEq, Eq, Drop)]
 pub struct Reply {
     /// How many changes the pass had seen.
     pub version: u32,
@@ -23,7 +23,7 @@ pub struct Reply {
 }
 
 /// Why steps are the call's own: the first of these cases that holds.
-#[derive(Debug, Drop)]
+#[derive(Debug, PartialEq, Eq, Drop)]
 pub enum Why {
     /// The program of the pass is of this version, and not of the one that it has reached. All
     /// steps are the call's own.

@@ -1,6 +1,6 @@
 //! Hubs once through.
 ghost use Rattle.std.specs.Prelude.{◌≡◌};
-ghost use Rattle.px_hub.specs.AllOfThem.{HoldsEvery};
+ghost use Rattle.px_hub.specs.AllOfThem.{HoldsEvery, AreClosed};
 
 use crate::config::Config;
 use crate::faults::{ReplaceFault, UnsubscribeFault};
@@ -20,6 +20,80 @@ const SMALL: Config = Config {
     step_bits: 4,
 };
 
+// Adds a filter, on a pass with no call open.
+fn add<N: HubName>(rt: &impl Wait, hub: &Hub<N>, pass: &mut Pass<N>, filter: &[u8]) -> Option<u32> {
+    if pass.is_open() {
+        return None;
+    }
+    hub.subscribe(rt, pass, filter).ok()
+}
+
+// Drops a filter, on a pass with no call open.
+fn drop_filter<N: HubName>(
+    rt: &impl Wait,
+    hub: &Hub<N>,
+    pass: &mut Pass<N>,
+    id: u32,
+) -> Option<Result<u32, UnsubscribeFault>> {
+    if pass.is_open() {
+        return None;
+    }
+    Some(hub.unsubscribe(rt, pass, id))
+}
+
+// Puts a filter in the place of another, on a pass with no call open.
+fn put<N: HubName>(
+    rt: &impl Wait,
+    hub: &Hub<N>,
+    pass: &mut Pass<N>,
+    id: u32,
+    filter: &[u8],
+) -> Option<Result<u32, ReplaceFault>> {
+    if pass.is_open() {
+        return None;
+    }
+    Some(hub.replace(rt, pass, id, filter))
+}
+
+// Refreshes a pass with no call open, and says how many filters are live.
+fn refresh<N: HubName>(rt: &impl Wait, hub: &Hub<N>, pass: &mut Pass<N>) -> Option<(u32, usize)> {
+    if pass.is_open() {
+        return None;
+    }
+    let version = hub.refresh(rt, pass).ok()?;
+    Some((version, live_filters(pass)?))
+}
+
+// How many filters are live for a pass with no call open.
+fn live_filters<N: HubName>(pass: &Pass<N>) -> Option<usize> {
+    if pass.is_open() {
+        return None;
+    }
+    Some(pass.live().as_slice().len())
+}
+
+// The id of the first filter that is live for a pass with no call open.
+fn first_id<N: HubName>(pass: &Pass<N>) -> Option<u32> {
+    if pass.is_open() {
+        return None;
+    }
+    let first = pass.live().as_slice().first()?;
+    Some(first.id)
+}
+
+// Lets a pass with no call open tell another of what it has seen.
+fn tell<N: HubName>(hub: &Hub<N>, from: &mut Pass<N>, to: &mut Pass<N>) -> Option<()> {
+    if from.is_open() {
+        return None;
+    }
+    let note = hub.note(from).ok()?;
+    if to.is_open() {
+        return None;
+    }
+    hub.meet(to, note);
+    Some(())
+}
+
 fn comes_and_goes_as<N: HubName>(rt: &impl Wait, parts: Parts) -> Option<([u32; 4], usize)>
     requires table { N.table ≡ parts.shared }
     requires passes { N.passes ≡ parts.passes }
@@ -27,12 +101,10 @@ fn comes_and_goes_as<N: HubName>(rt: &impl Wait, parts: Parts) -> Option<([u32; 
     let (hub, mut passes) = Hub::<N>::create(parts).ok()?;
     let mut one = passes.pop()?;
     let mut two = passes.pop()?;
-    let id = hub.subscribe(rt, &mut one, b"/a").ok()?;
-    let version = hub.refresh(rt, &mut two).ok()?;
-    let dropped = hub.unsubscribe(rt, &mut one, id).ok()?;
-    let before = two.live().as_slice().len();
-    let note = hub.note(&mut one).ok()?;
-    hub.meet(&mut two, note);
+    let id = add(rt, &hub, &mut one, b"/a")?;
+    let (version, before) = refresh(rt, &hub, &mut two)?;
+    let dropped = drop_filter(rt, &hub, &mut one, id)?.ok()?;
+    tell(&hub, &mut one, &mut two)?;
     Some(([id, version, dropped, two.version()], before))
 }
 
@@ -53,21 +125,21 @@ fn replaced_as<N: HubName>(rt: &impl Wait, parts: Parts) -> Option<[u32; 4]>
 {
     let (hub, mut passes) = Hub::<N>::create(parts).ok()?;
     let mut pass = passes.pop()?;
-    let id = hub.subscribe(rt, &mut pass, b"/a").ok()?;
-    let version = hub.replace(rt, &mut pass, 1, b"/b").ok()?;
-    let Err(ReplaceFault::Unknown) = hub.replace(rt, &mut pass, 2, b"/a") else {
+    let id = add(rt, &hub, &mut pass, b"/a")?;
+    let version = put(rt, &hub, &mut pass, 1, b"/b")?.ok()?;
+    let Err(ReplaceFault::Unknown) = put(rt, &hub, &mut pass, 2, b"/a")? else {
         return None;
     };
-    let Err(ReplaceFault::Filter(FilterFault::NotAFilter { at })) = hub.replace(
-        rt, &mut pass, 9, b"[",
-    ) else {
+    let Err(ReplaceFault::Filter(FilterFault::NotAFilter { at })) = put(
+        rt, &hub, &mut pass, 9, b"[",
+    )?
+    else {
         return None;
     };
-    let Err(UnsubscribeFault::Unknown) = hub.unsubscribe(rt, &mut pass, 2) else {
+    let Err(UnsubscribeFault::Unknown) = drop_filter(rt, &hub, &mut pass, 2)? else {
         return None;
     };
-    let first = pass.live().as_slice().first()?;
-    Some([id, version, at, first.id])
+    Some([id, version, at, first_id(&pass)?])
 }
 
 fn replaced(rt: &impl Wait, alloc: Global) -> Option<[u32; 4]> {
@@ -88,10 +160,11 @@ fn refresh_together<N: HubName>(
     mut passes: Vec<Pass<N>>,
 ) -> Option<(u32, u32, u32)>
     requires every { HoldsEvery N.passes passes.items }
+    requires closed { AreClosed passes.items }
 {
     let version = hub.refresh_all(rt, passes.as_mut_slice()).ok()?;
     let mut one = passes.pop()?;
-    hub.subscribe(rt, &mut one, b"/a").ok()?;
+    add(rt, hub, &mut one, b"/a")?;
     Some((version, one.number(), one.version()))
 }
 

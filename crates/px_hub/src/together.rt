@@ -2,7 +2,7 @@
 ghost use Rattle.std.specs.Prelude.{◌≡◌, ◌<◌, All, length, slice_index_or, slice_set, OnOk, IfOk, OnErr};
 ghost use Rattle.px_hub.specs.Entries.{who_of};
 ghost use Rattle.px_hub.specs.Calls.{Refreshed, seen_of};
-ghost use Rattle.px_hub.specs.AllOfThem.{HoldsEvery, AllRefreshed, SomeRefreshed, RefreshedAt};
+ghost use Rattle.px_hub.specs.AllOfThem.{HoldsEvery, AreClosed, AllRefreshed, SomeRefreshed, RefreshedAt};
 
 use crate::desk::Desk;
 use crate::law::Workload;
@@ -22,6 +22,7 @@ impl<N: HubName> Desk<N> {
     ) -> Result<u32, AllocError>
         requires table { shared.now ≡ N.table }
         requires every { HoldsEvery N.passes passes.old }
+        requires closed { AreClosed passes.old }
         ensures refreshed { IfOk result
             (λ version. AllRefreshed N.table.shape.banks version passes.old passes.new) }
         ensures memory { OnErr result (SomeRefreshed N.table.shape.banks passes.old passes.new) }
@@ -42,6 +43,7 @@ impl<N: HubName> Desk<N> {
     ) -> Result<(), AllocError>
         requires table { shared.now ≡ N.table }
         requires within { at < length passes.old }
+        requires closed { AreClosed passes.old }
         ensures desk { self.new.past.seen ≡ self.old.past.seen }
         ensures refreshed { OnOk result
             (RefreshedAt N.table.shape.banks N.passes self.old.past.seen at passes.old passes.new) }

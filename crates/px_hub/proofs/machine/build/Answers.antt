@@ -20,7 +20,8 @@ pub returns : goal.returns
 returns c =
     let changes = c.args.journal.now.changes in
     let live : Listed = c.in_ok-live.live in
-    let made : AtVersion = record { version = c.version-version.result; live = c.in_ok-live-2.live; compiled = c.in_ok-compiled.compiled } in
+    let made : AtVersion = record { version = c.version-version.result; live = c.in_ok-live-2.live; program = c.in_ok-program.program; compiled = c.in_ok-compiled.compiled } in
     subst (λ (x : AtVersion). (x.version ≡ length changes) × IsBuilt changes x) (sym c.in_ok-new.ensures.ok)
     (is_built changes made c.version-version.ensures.version (subst (λ (l : Listed). AreLiveBehind changes l.filters) (sym c.in_ok-live-2.ensures.ok) c.in_ok-live.ensures.live)
-    (c.in_ok-compiled.ensures.program ∙ (c.in_ok-program.ensures.ok ∙ (c.in_ok-build.ensures.program ∙ (ap (λ l. automata (subscriptions l)) c.as_slice.ensures.same ∙ ap automata c.in_ok-live.ensures.live)))))
+    (c.in_ok-program.ensures.ok ∙ (c.in_ok-build.ensures.program ∙ (ap (λ l. automata (subscriptions l)) c.as_slice.ensures.same ∙ ap automata c.in_ok-live.ensures.live)))
+    (c.in_ok-compiled.ensures.program ∙ c.in_ok-try_clone.ensures))

@@ -9,10 +9,10 @@ use Rattle.px_hub.proofs.desk.Desk.accept.Given as given
 use Rattle.px_hub.proofs.desk.Desk.accept.Goals as goal
 
 abbrev before : (g : given.Over) (c : goal.After-drop-pass-inside g) → PassView
-before g c = pass_view c.pass.inside.number c.pass.inside.seat.view (arc_value c.pass.inside.built).version c.pass.inside.home
+before g c = pass_view c.pass.inside.number c.pass.inside.seat.view (arc_value c.pass.inside.built).version c.pass.inside.home c.pass.inside.is_open
 
 abbrev later : (g : given.Over) (c : goal.After-drop-pass-inside g) → PassView
-later g c = pass_view c.pass.inside.number c.accept.new.pass.view (arc_value c.pass.inside.built).version c.pass.inside.home
+later g c = pass_view c.pass.inside.number c.accept.new.pass.view (arc_value c.pass.inside.built).version c.pass.inside.home c.pass.inside.is_open
 
 journal_is : (g : given.Over) (c : goal.After-drop-pass-inside g) → c.append-version.new.self.changes ≡ c.self.inside.journal.changes ++ c.args.change ∷ []
 journal_is g c = c.append-version.ensures.accepted ∙ ap (λ l. l ++ c.args.change ∷ []) c.in_ok-reserve.ensures.same

@@ -9,10 +9,10 @@ use Rattle.px_hub.proofs.desk.Desk.catch_up.Given as given
 use Rattle.px_hub.proofs.desk.Desk.catch_up.Goals as goal
 
 abbrev before : (g : given.Over) (c : goal.After-drop-pass-inside g) → PassView
-before g c = pass_view c.pass.inside.number c.pass.inside.seat.view (arc_value c.pass.inside.built).version c.pass.inside.home
+before g c = pass_view c.pass.inside.number c.pass.inside.seat.view (arc_value c.pass.inside.built).version c.pass.inside.home c.pass.inside.is_open
 
 abbrev later : (g : given.Over) (c : goal.After-drop-pass-inside g) → PassView
-later g c = pass_view c.pass.inside.number c.catch_up.new.pass.view (arc_value c.pass.inside.built).version c.pass.inside.home
+later g c = pass_view c.pass.inside.number c.catch_up.new.pass.view (arc_value c.pass.inside.built).version c.pass.inside.home c.pass.inside.is_open
 
 both : (g : given.Over) (c : goal.After-drop-pass-inside g) → IsPass g.N.HubName.table g.N.HubName.passes c.catch_up.new.pass.table c.version-version.result (arc_value c.in_ok-live-2.live).filters (arc_value c.pass.inside.built) (later g c)
     × CaughtUp (before g c) (later g c)

@@ -15,7 +15,7 @@ use Rattle.px_hub.proofs.desk.Desk.refresh.Goals as goal
 
 pub invariant_of-pass : goal.invariant_of-pass
 invariant_of-pass g c =
-    let p : PassView = pass_view c.pass.inside.number c.pass.inside.seat.view (arc_value c.pass.inside.built).version c.pass.inside.home in
+    let p : PassView = pass_view c.pass.inside.number c.pass.inside.seat.view (arc_value c.pass.inside.built).version c.pass.inside.home c.pass.inside.is_open in
     let m : AtVersion = arc_value c.in_ok-built.built in
     let log : List Change = c.self.inside.seat.view.past.seen in
     let d : Stay = c.give_home-home.new.desk.view.stay in
@@ -29,12 +29,12 @@ invariant_of-pass g c =
     let gives = subst (λ (y : ℕ × ℕ). GivesHome c.self.inside.stands.items y.1 (number_of p.view.past.kind) (p.view.past.loads + 1) y.0 d home) (λ i. ((c.requires.table i).shape.banks, version_is i)) c.give_home-home.ensures.home in
     let settled = c.give_home-home.ensures.pass in
     let both = refreshes g.N.HubName.table c.pass.inside.seat.table c.give_home-home.new.pass.table g.N.HubName.passes c.pass.inside.version c.version-version.result (arc_value c.pass.inside.live).filters (arc_value c.in_ok-live.live).filters
-    (arc_value c.pass.inside.built) m p d w home settled.0 c.self.inside.seat.view.past.made log c.self.inside.stands.items c.pass.invariant gives settled.1 c.self.invariant.made (c.give_home-home.ensures.tables.1 ∙ c.requires.table) version_is live machine.0 machine.1 in
+    (arc_value c.pass.inside.built) m p d w home settled.0 c.self.inside.seat.view.past.made log c.self.inside.stands.items c.pass.invariant gives settled.1 c.self.invariant.made (c.give_home-home.ensures.tables.1 ∙ c.requires.table) version_is live machine.0 machine.1 (ap (λ (v : PassView). v.is_open) c.pass.view_is ∙ c.requires.closed) in
     both.0
 
 pub returns-clause-refreshed : goal.returns-clause-refreshed
 returns-clause-refreshed g c =
-    let p : PassView = pass_view c.pass.inside.number c.pass.inside.seat.view (arc_value c.pass.inside.built).version c.pass.inside.home in
+    let p : PassView = pass_view c.pass.inside.number c.pass.inside.seat.view (arc_value c.pass.inside.built).version c.pass.inside.home c.pass.inside.is_open in
     let m : AtVersion = arc_value c.in_ok-built.built in
     let log : List Change = c.self.inside.seat.view.past.seen in
     let d : Stay = c.give_home-home.new.desk.view.stay in
@@ -48,5 +48,5 @@ returns-clause-refreshed g c =
     let gives = subst (λ (y : ℕ × ℕ). GivesHome c.self.inside.stands.items y.1 (number_of p.view.past.kind) (p.view.past.loads + 1) y.0 d home) (λ i. ((c.requires.table i).shape.banks, version_is i)) c.give_home-home.ensures.home in
     let settled = c.give_home-home.ensures.pass in
     let both = refreshes g.N.HubName.table c.pass.inside.seat.table c.give_home-home.new.pass.table g.N.HubName.passes c.pass.inside.version c.version-version.result (arc_value c.pass.inside.live).filters (arc_value c.in_ok-live.live).filters
-    (arc_value c.pass.inside.built) m p d w home settled.0 c.self.inside.seat.view.past.made log c.self.inside.stands.items c.pass.invariant gives settled.1 c.self.invariant.made (c.give_home-home.ensures.tables.1 ∙ c.requires.table) version_is live machine.0 machine.1 in
-    subst (λ (v : PassView). Refreshed g.N.HubName.table.shape.banks c.version-version.result v (pass_view c.pass.inside.number w m.version home)) c.pass.view_is both.1
+    (arc_value c.pass.inside.built) m p d w home settled.0 c.self.inside.seat.view.past.made log c.self.inside.stands.items c.pass.invariant gives settled.1 c.self.invariant.made (c.give_home-home.ensures.tables.1 ∙ c.requires.table) version_is live machine.0 machine.1 (ap (λ (v : PassView). v.is_open) c.pass.view_is ∙ c.requires.closed) in
+    subst (λ (v : PassView). Refreshed g.N.HubName.table.shape.banks c.version-version.result v (pass_view c.pass.inside.number w m.version home c.pass.inside.is_open)) c.pass.view_is both.1

@@ -2,11 +2,21 @@ use Rattle.std.proofs.Common.{◌≡◌, ℕ, List, length, refl, sym, ap, ◌�
 use Rattle.px_workload.specs.declared.change.Change.{Change}
 use Rattle.px_hub.specs.Passes.{PassView}
 use Rattle.px_hub.specs.AllOfThem.{RefreshedAt, SomeRefreshed}
-use Rattle.px_hub.proofs.Gathered.{Sofar, none_yet, one_more, some_are, all_are, on_err}
+use Rattle.px_hub.proofs.Gathered.{Sofar, none_yet, one_more, closed_yet, some_are, all_are, on_err}
 use Rattle.px_hub.proofs.desk.Desk.refresh_all.Goals as goal
 
 pub loop-at-init : goal.loop-at-init
 loop-at-init g c = (refl, none_yet g.N.HubName.table.shape.banks g.N.HubName.passes c.args.self.now.past.seen c.args.passes.now)
+
+pub refresh_at-requires : goal.refresh_at-requires
+refresh_at-requires g c =
+    let i = c.loop-at.invariant in
+    let long = i.1.as_many in
+    record {
+      table = c.requires.table;
+      within = omega arith;
+      closed = closed_yet g.N.HubName.table.shape.banks g.N.HubName.passes c.args.self.now.past.seen c.loop-at.at c.args.passes.now c.loop-at.passes i.1 c.requires.closed;
+    }
 
 pub returns-in_err-refresh_at-clause-memory : goal.returns-in_err-refresh_at-clause-memory
 returns-in_err-refresh_at-clause-memory g c =

@@ -1,5 +1,5 @@
 use Rattle.std.proofs.Common.{◌≡◌, ◌+◌, length, sym, ap, ◌∙◌, arith}
-use Rattle.px_hub.proofs.Beginning.{every_new, new_more}
+use Rattle.px_hub.proofs.Beginning.{every_new, closed_new, new_more}
 use Rattle.px_hub.proofs.hub.Hub.create.Goals as goal
 
 pub loop-number-preserved : goal.loop-number-preserved
@@ -19,3 +19,6 @@ returns-clause-every g c =
     let long : length c.loop-number.all.items ≡ g.N.HubName.passes =
     sym c.loop-number.all.ok.0 ∙ (i.2 ∙ (let ended : c.loop-number.number ≡ c.args.parts.passes = omega arith in ended ∙ sym c.requires.passes)) in
     every_new g.N.HubName.passes c.loop-number.all.items long i.4
+
+pub returns-clause-closed : goal.returns-clause-closed
+returns-clause-closed g c = closed_new c.loop-number.all.items c.loop-number.invariant.4
