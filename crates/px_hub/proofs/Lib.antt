@@ -17,3 +17,4 @@ pub mod Entering
 pub mod Opening
 pub mod Ending
 pub mod Refusing
+pub mod Sending

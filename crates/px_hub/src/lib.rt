@@ -36,6 +36,9 @@
 //! tells that each entry that a pass has seen names a pass of the hub, and that those that name it
 //! are the changes that it asked for.
 //!
+//! **Threads** may share a hub, and a pass and a note may go to another thread
+//! ([`threads_may_share_a_hub`]).
+//!
 //! **Which hub.** A pass is of the hub that its type parameter names ([`HubName`]): the caller
 //! makes [`Parts`], hands them to a function of its own that is generic in a name, with std's
 //! `Brand` for it, and that calls [`Hub::create`].
@@ -68,7 +71,7 @@
 //! follows.
 //!
 //! Not said: which of two changes at the same time is first, that a claim succeeds, or anything of
-//! waiting. To come: that the types may cross threads (`Send`, `Sync`), which no proof shows yet.
+//! waiting.
 #![tactic(auto)]
 
 mod alone;
@@ -77,6 +80,7 @@ mod banks;
 mod call;
 mod changes;
 mod config;
+mod crossing;
 mod desk;
 mod engine;
 mod entrance;
@@ -102,6 +106,7 @@ mod together;
 
 pub use call::Call;
 pub use config::Config;
+pub use crossing::threads_may_share_a_hub;
 pub use faults::{ReplaceFault, SubscribeFault, UnsubscribeFault};
 pub use home::Home;
 pub use hub::Hub;
