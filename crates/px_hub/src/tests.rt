@@ -3,6 +3,7 @@ ghost use Rattle.std.specs.Prelude.{◌≡◌};
 ghost use Rattle.px_hub.specs.AllOfThem.{HoldsEvery, AreClosed};
 
 use crate::config::Config;
+use crate::crossing::threads_may_share_a_hub;
 use crate::faults::{ReplaceFault, UnsubscribeFault};
 use crate::hub::Hub;
 use crate::name::HubName;
@@ -12,6 +13,7 @@ use px_xpath::FilterFault;
 use std::alloc::Global;
 use std::marker::Brand;
 use std::sync::Wait;
+use std::thread::{Threads, join};
 
 const SMALL: Config = Config {
     passes: 2,
@@ -186,4 +188,43 @@ fn refreshed(rt: &impl Wait, alloc: Global) -> Option<(u32, u32, u32)> {
 #[test]
 fn all_passes_are_refreshed(rt: HostRuntime) {
     assert_eq!(rt; refreshed(&rt, rt.alloc()), Some((0, 1, 1)));
+}
+
+// The ids of two filters that two threads add, each with a pass of its own.
+fn add_both<N: HubName + Send + Sync, R: Threads + Wait + Sync>(
+    rt: &R,
+    hub: &Hub<N>,
+    one: &mut Pass<N>,
+    two: &mut Pass<N>,
+) -> Option<[u32; 2]> {
+    threads_may_share_a_hub::<N>();
+    let (first, second) = join(rt, || add(rt, hub, one, b"/a"), || add(rt, hub, two, b"/b"));
+    Some([first?, second?])
+}
+
+fn added_as<N: HubName + Send + Sync, R: Threads + Wait + Sync>(
+    rt: &R,
+    parts: Parts,
+) -> Option<([u32; 2], [(u32, usize); 2])>
+    requires table { N.table ≡ parts.shared }
+    requires passes { N.passes ≡ parts.passes }
+{
+    let (hub, mut passes) = Hub::<N>::create(parts).ok()?;
+    let mut one = passes.pop()?;
+    let mut two = passes.pop()?;
+    let [first, second] = add_both(rt, &hub, &mut one, &mut two)?;
+    let seen = [refresh(rt, &hub, &mut one)?, refresh(rt, &hub, &mut two)?];
+    Some(([first.min(second), first.max(second)], seen))
+}
+
+fn added<R: Threads + Wait + Sync>(rt: &R, alloc: Global) -> Option<([u32; 2], [(u32, usize); 2])> {
+    let parts = Parts::new(alloc, SMALL).ok()?;
+    added_as::<Brand, R>(rt, parts)
+}
+
+// Two threads add a filter each. The ids are 1 and 2, whoever was first, and after a refresh both
+// passes are at version 2 and have both filters.
+#[test]
+fn two_threads_add_a_filter_each(rt: HostRuntime) {
+    assert_eq!(rt; added(&rt, rt.alloc()), Some(([1, 2], [(2, 2), (2, 2)])));
 }
