@@ -69,9 +69,11 @@ impl<N: HubName> Pass<N> {
         self.number
     }
 
-    /// Whether a call that filters is open. Then no other call takes the pass.
+    /// Whether a call that filters is open. Then no other call takes the pass. Where none is, the
+    /// pass is in no bank.
     pub fn is_open(&self) -> bool
-        ensures { result ≡ self.now.is_open }
+        ensures open { result ≡ self.now.is_open }
+        ensures outside { result ≡ false → self.now.view.stay.place ≡ Outside }
     {
         self.is_open
     }
