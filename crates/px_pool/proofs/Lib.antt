@@ -1,0 +1,9 @@
+pub mod Staying
+pub mod Spelt
+pub mod Turns
+pub mod Places
+pub mod Gathers
+pub mod Whole
+pub mod Counts
+pub mod Naming
+pub mod Sharing
