@@ -22,14 +22,16 @@
 //! and its bank, on every answer (`AllStay`). `specs/Counting.antt`: at which version each reply
 //! is, and what the replies that name a pass count together.
 //!
-//! Not said: that two workers ran beside each other, or which of them answered which document. No
-//! test runs a batch yet.
+//! Not said: that two workers ran beside each other, which a test shows, or which of them answered
+//! which document.
 #![tactic(auto)]
 
 mod batches;
 mod gather;
 mod laws;
 mod notice;
+#[cfg(test)]
+mod tests;
 mod worker;
 
 pub use batches::batch;
