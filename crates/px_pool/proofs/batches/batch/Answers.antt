@@ -1,4 +1,4 @@
-use Rattle.std.proofs.Common.{◌≡◌, ◌<◌, ◌+◌, ℕ, length, ap, sym, ◌∙◌, arith}
+use Rattle.std.proofs.Common.{◌+◌, ℕ, length, ap, sym, ◌∙◌, arith}
 use Rattle.px_crew.specs.Drawn.{quota_of}
 use Rattle.px_pool.specs.Working.{WorkedIfClosed}
 use Rattle.px_pool.proofs.Whole.{as_many, ok_then, closed_stay, closed_brought, closed_batched}

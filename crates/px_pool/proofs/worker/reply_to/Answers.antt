@@ -1,4 +1,4 @@
-use Rattle.std.proofs.Common.{◌≡◌, ℕ, List, Err, ap, ◌∙◌, subst}
+use Rattle.std.proofs.Common.{ℕ, List, Err, ap, ◌∙◌, subst}
 use Rattle.std.specs.Prelude.{Result}
 use Rattle.px_reader.specs.Verdicts.{SpellsTree}
 use Rattle.px_hub.specs.declared.reply.FilterCallFault.{FilterCallFault}

@@ -1,4 +1,4 @@
-use Rattle.std.proofs.Common.{◌≡◌, ◌≤◌, ◌<◌, length, arith}
+use Rattle.std.proofs.Common.{◌≤◌, arith}
 use Rattle.px_pool.specs.declared.worker.Answer.{Answer}
 use Rattle.px_pool.proofs.Turns.{leaves, at_least, goes_round}
 use Rattle.px_pool.proofs.worker.Round.answer_all.Goals as goal

@@ -1,4 +1,4 @@
-use Rattle.std.proofs.Common.{◌≡◌, ◌∙◌, sym, refl, subst}
+use Rattle.std.proofs.Common.{◌∙◌, sym, refl}
 use Rattle.px_pool.proofs.Staying.{stays_same}
 use Rattle.px_pool.proofs.Turns.{begins, none_at_err}
 use Rattle.px_pool.proofs.worker.Round.run.Goals as goal
