@@ -86,6 +86,8 @@ mod engine;
 mod entrance;
 mod exchange;
 mod faults;
+#[cfg(test)]
+mod filter_tests;
 mod filtering;
 mod home;
 mod hub;
