@@ -143,3 +143,7 @@ module _ {E : Type 0} (right : List E → Op → Operand → Operand → List �
     runs = (runner, e, h.runs);
     counts = h.counts;
   }
+
+  -- a call knows the seat that it began with
+  pub of_its_seat : (seat : Seated E) (call : Call E) (given : List Event) → HasFiltered right automata began seat call given → HasFiltered right automata call.began seat call given
+  of_its_seat seat call given h = subst (λ (b : Seated E). HasFiltered right automata b seat call given) (sym h.began_is) h

@@ -49,6 +49,8 @@ mod laws;
 mod solving;
 mod stepping;
 mod tally;
+#[cfg(test)]
+mod tests;
 
 pub use bank_memo::BankMemo;
 pub use call::BankCall;
