@@ -13,7 +13,7 @@ use Rattle.px_feed.specs.declared.status.Status.TheVariants.{Done, Refused, Usag
 use Rattle.px_feed.specs.Lines.{is_refusal}
 use Rattle.px_feed.specs.Outputs.{Out, lines_for, text_of, status_of}
 use Rattle.xpush.specs.declared.serving.Serving.{Serving}
-use Rattle.xpush.specs.Answers.{Served, ServedWhole, WritesFront, is_cut_short}
+use Rattle.xpush.specs.Runs.{Served, ServedWhole, WritesFront, is_cut_short}
 use Rattle.xpush.specs.Forms.{Serves}
 use Rattle.xpush.specs.Standing.{Streams, streams, BeginsOut, Took, Ended}
 use Rattle.xpush.specs.Waiting.{IsCut, Closes, Breaks}

@@ -12,7 +12,7 @@ use Rattle.px_feed.specs.Items.{Item}
 use Rattle.px_feed.specs.Outputs.{Ask, AllAsk, AreLines, Out, lines_for, text_of, status_of}
 use Rattle.px_feed.specs.Taking.{HasTaken, Ends}
 use Rattle.px_feed.proofs.Fronts.{begins-output-waiting, out-at-end, out-at-fault}
-use Rattle.xpush.specs.Answers.{WritesFront}
+use Rattle.xpush.specs.Runs.{WritesFront}
 use Rattle.xpush.specs.Forms.{Serves}
 use Rattle.xpush.specs.Fronts.{AddsFront}
 use Rattle.xpush.specs.Standing.{BeginsOut}
@@ -54,7 +54,7 @@ cut_front first held now lines begun front = record {
         out.0,
         drop front.0 (text_of lines) ++ out.1,
         out.2,
-        out.3,
+        ((out.0, out.2), out.3, refl, refl),
         out.4 ∙ ap (λ (text : List ℕ). text ++ out.1) parts ∙ append_assoc (take front.0 (text_of lines)) (drop front.0 (text_of lines)) out.1,
       );
 }

@@ -10,6 +10,8 @@ pub mod Noting
 pub mod OneOutput
 pub mod WhatIsFound
 pub mod Reading
+pub mod Runs
+pub mod RunFacts
 pub mod Saying
 pub mod Sizes
 pub mod Spoken

@@ -1,8 +1,7 @@
 -- The line that answers a document.
-use Rattle.std.proofs.Common.{◌≡◌, ℕ, Bool, true, false, List, [], ◌∷◌, map, cond, Option, Result, Ok, Err, IfOk, IsTrue, if◌then◌else◌, refl, ap, sym, ◌∙◌, subst, inl, inr, take, drop}
+use Rattle.std.proofs.Common.{◌≡◌, ℕ, Bool, true, false, List, [], ◌∷◌, map, cond, Option, Result, Ok, Err, IfOk, IsTrue, if◌then◌else◌, refl, ap, sym, ◌∙◌, subst, inr, take, drop}
 use Rattle.std.proofs.lemmas.List.{take-append-drop}
 use Rattle.px_text.specs.Numbers.{is_empty}
-use Rattle.px_io.proofs.Flowing.{adds_nothing}
 use Rattle.px_reader.specs.declared.fault.DocFault.{DocFault}
 use Rattle.px_reader.specs.declared.fault.DocKind.{DocKind}
 use Rattle.px_reader.specs.declared.fault.DocKind.TheVariants.{NotHere, NotUtf8, LineLong, TooDeep, TooManyAttributes, TooBig, Truncated}
@@ -12,6 +11,7 @@ use Rattle.px_xpath.specs.Faults.{IsText, HasFault}
 use Rattle.px_xpath.specs.Filters.{Way}
 use Rattle.px_xpath.specs.Histories.{Subscription}
 use Rattle.px_xpath.specs.Meaning.{holds}
+use Rattle.px_document.specs.Findings.{is_truncated, line_is_of_filter}
 use Rattle.px_feed.specs.declared.line.FeedKind.TheVariants.{Doc}
 use Rattle.px_feed.specs.declared.line.OutLine.{OutLine}
 use Rattle.px_feed.specs.declared.line.OutLine.TheVariants.{NoFilter, Yes, No}
@@ -28,9 +28,9 @@ use Rattle.xpush.specs.declared.stop.Cut.TheVariants as cuts
 use Rattle.xpush.specs.declared.stop.Stop.{Stop}
 use Rattle.xpush.specs.declared.stop.Stop.TheVariants as stops
 use Rattle.xpush.specs.Stops.{outcome_of, refusal_of}
-use Rattle.xpush.specs.Answers.{IsLineFor, IsLineUnder, WritesFront, is_of_filter, is_truncated}
+use Rattle.xpush.specs.Runs.{IsLineFor, IsLineUnder, WritesFront}
 use Rattle.xpush.specs.Documents.{GivesMatch, GivesFault}
-use Rattle.xpush.specs.Forms.{Makes, Form, Matches, Shows}
+use Rattle.xpush.specs.Forms.{Makes, Matches, Shows}
 use Rattle.xpush.specs.Fronts.{AddsFront}
 
 -- the line of a document that was read to its end
@@ -39,10 +39,10 @@ pub ids_line : (way : Way) (left after : Option (List ℕ)) (ids : List ℕ) (li
 ids_line way left after ids line g e = record {
   answers = λ bytes told. (IsTree g.root, g.verdict bytes told, e ∙ ap (λ (all : List ℕ). if is_empty all then No else Yes) g.ids_are ∙ by_holding (holds way g.root));
   read_whole = λ _. g.spent;
-  of_document = ap is_of_filter e ∙ of_either (is_empty ids);
+  of_document = ap line_is_of_filter e ∙ of_either (is_empty ids);
 }
   where
-    of_either : (b : Bool) → is_of_filter (if b then No else Yes) ≡ false
+    of_either : (b : Bool) → line_is_of_filter (if b then No else Yes) ≡ false
     of_either true = refl
     of_either false = refl
 
@@ -98,7 +98,7 @@ pub parsed_line : (text : List ℕ) (way : Way) (left after : Option (List ℕ))
 parsed_line text way left after line parsed under = record {
   answers = λ bytes told. (Ok way, parsed, under.answers bytes told);
   read_whole = under.read_whole;
-  unread = λ t. absurd (not_both (is_of_filter line) under.of_document t);
+  unread = λ t. absurd (not_both (line_is_of_filter line) under.of_document t);
 }
   where
     not_both : (b : Bool) → b ≡ false → IsTrue b → ⊥
@@ -150,17 +150,13 @@ cut_line text left after held held_after line l front = record {
       (line_text line, drop front.0 (line_text line), status_behind line, (line, l.answers bytes told, refl, refl), sym (take-append-drop front.0 (line_text line)));
 }
 
--- nothing was written
-pub wrote_nothing : (form : Form) (left held : Option (List ℕ)) → WritesFront form left held held
-wrote_nothing form left held = record { bytes_written = []; written = adds_nothing held; is_front = λ bytes told. inl refl }
-
 -- where what is shown was cut short, its front was written
 pub cut_shown : (text shown : List ℕ) (left held held_after : Option (List ℕ)) (status : Status) → OutShow text shown status → AddsFront held shown held_after →
     WritesFront (Shows text) left held held_after
 cut_shown text shown left held held_after status out front = record {
   bytes_written = take front.0 shown;
   written = front.1;
-  is_front = λ bytes told. inr (shown, drop front.0 shown, status, out, sym (take-append-drop front.0 shown));
+  is_front = λ bytes told. inr (shown, drop front.0 shown, status, ((shown, status), out, refl, refl), sym (take-append-drop front.0 shown));
 }
 
 -- where a feed was cut short, its front was written
@@ -171,5 +167,5 @@ cut_feed seed filters documents left held held_after front =
     record {
       bytes_written = take front.0 text;
       written = front.1;
-      is_front = λ bytes told. inr (text, drop front.0 text, Done, (refl, refl), sym (take-append-drop front.0 text));
+      is_front = λ bytes told. inr (text, drop front.0 text, Done, ((text, Done), (refl, refl), refl, refl), sym (take-append-drop front.0 text));
     }

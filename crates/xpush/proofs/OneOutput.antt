@@ -9,10 +9,13 @@ use Rattle.xpush.specs.Forms.{Form, Explains, Makes, Matches, Serves, Shows, Ver
 
 pub out-one : (form : Form) (bytes text other : List ℕ) (status end : Status) → OutOf form bytes text status → OutOf form bytes other end → (text ≡ other) × (status ≡ end)
 out-one (Matches filter) bytes text other status end p q = matches-one filter bytes text other status end p q
-out-one (Shows filter) bytes text other status end p q = shows-one filter text other status end p q
+out-one (Shows filter) bytes text other status end (output, p, e, s) (second, q, f, t) =
+    let same = shows-one filter output.0 second.0 output.1 second.1 p q in (e ∙ same.0 ∙ sym f, s ∙ same.1 ∙ sym t)
 out-one (Explains filter) bytes text other status end (finding, p, e, s) (second, q, f, t) =
     let same = explained-one filter bytes finding second p q in (e ∙ ap findings.text same ∙ sym f, s ∙ ap findings.status same ∙ sym t)
 out-one (Verifies filter) bytes text other status end (finding, p, e, s) (second, q, f, t) =
     let same = verified-one filter bytes finding second p q in (e ∙ ap findings.text same ∙ sym f, s ∙ ap findings.status same ∙ sym t)
-out-one (Makes seed filters documents) bytes text other status end p q = (p.0 ∙ sym q.0, p.1 ∙ sym q.1)
-out-one Serves bytes text other status end p q = feeds-one bytes text other status end p q
+out-one (Makes seed filters documents) bytes text other status end (output, p, e, s) (second, q, f, t) =
+    (e ∙ p.0 ∙ sym q.0 ∙ sym f, s ∙ p.1 ∙ sym q.1 ∙ sym t)
+out-one Serves bytes text other status end (output, p, e, s) (second, q, f, t) =
+    let same = feeds-one bytes output.0 second.0 output.1 second.1 p q in (e ∙ same.0 ∙ sym f, s ∙ same.1 ∙ sym t)

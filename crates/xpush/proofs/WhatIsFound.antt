@@ -8,7 +8,7 @@ use Rattle.px_document.specs.Findings.{text, status}
 use Rattle.px_document.specs.Outputs as outputs
 use Rattle.px_document.specs.Outputs.{IsFound}
 use Rattle.px_document.specs.declared.finding.Finding.{Finding}
-use Rattle.xpush.specs.Answers.{Proved, WritesFront, is_finished}
+use Rattle.xpush.specs.Runs.{Proved, WritesFront, is_finished}
 use Rattle.xpush.specs.Forms.{Explains, Verifies}
 use Rattle.xpush.specs.Fronts.{AddsFront}
 

@@ -1,147 +1,172 @@
 -- What a run of the program answers.
-use Rattle.std.specs.Prelude.{◌≡◌, ◌++◌, ◌⊎◌, ℕ, Bool, true, false, List, [], Option, Some, IsTrue}
+use Rattle.std.specs.Prelude.{◌≡◌, ◌≤◌, ◌++◌, ◌⊎◌, ℕ, Bool, true, false, List, [], Option, Some, IsTrue, IsFalse}
+use Rattle.px_io.specs.Faults.{Rose}
 use Rattle.px_io.specs.Flows.{TakesFrom, AddsTo, IsSpent}
-use Rattle.px_reader.specs.declared.fault.DocKind.TheVariants.{Truncated}
-use Rattle.px_feed.specs.declared.line.FeedKind.{FeedKind}
-use Rattle.px_feed.specs.declared.line.FeedKind.TheVariants.{Doc}
 use Rattle.px_feed.specs.declared.line.OutLine.{OutLine}
-use Rattle.px_feed.specs.declared.line.OutLine.TheVariants.{NoFilter, Faulty, Yes, No}
 use Rattle.px_feed.specs.declared.status.Status.{Status}
-use Rattle.px_feed.specs.declared.status.Status.TheVariants.{Done, Refused, WriteFault, Memory}
+use Rattle.px_feed.specs.declared.status.Status.TheVariants.{Done, Refused, Usage, ReadFault, WriteFault, Memory}
 use Rattle.px_feed.specs.Generator.{feed}
 use Rattle.px_feed.specs.Items.{Item, AreWhole}
 use Rattle.px_feed.specs.Lines.{line_text}
-use Rattle.px_feed.specs.Matches.{AnswersDocument, AnswersMatch, OutMatch, OutShow, status_behind}
+use Rattle.px_feed.specs.Matches.{AnswersMatch, OutShow, status_behind}
 use Rattle.px_feed.specs.Outputs.{AreLines, Out, text_of}
-use Rattle.px_xpath.specs.Filters.{Way}
 use Rattle.px_document.specs.declared.finding.Finding.{Finding}
 use Rattle.px_document.specs.CutShort.{CutAtDocument, CutAtProof}
 use Rattle.px_document.specs.Findings as findings
 use Rattle.px_document.specs.Outputs as outputs
-use Rattle.px_document.specs.Outputs.{IsFound, OutExplain, OutVerify}
 use Rattle.xpush.specs.Forms.{Form, Explains, Makes, Matches, Serves, Shows, Verifies}
 
-abbrev pub is_truncated : FeedKind → Bool
-is_truncated (Doc Truncated) = true
-is_truncated _ = false
+-- a text, and the status behind it
+abbrev pub Output : Type 0
+Output = List ℕ × Status
 
--- whether a line is known only once the whole input is read
-abbrev pub needs_all : OutLine → Bool
-needs_all Yes = true
-needs_all No = true
-needs_all (Faulty fault) = is_truncated fault.kind
-needs_all _ = false
+-- what is answered to a form, before it is written: by `match` a line, by `explain` and `verify` a finding
+abbrev pub Answer : Form → Type 0
+Answer (Matches filter) = OutLine
+Answer (Shows filter) = Output
+Answer (Explains filter) = Finding
+Answer (Verifies filter) = Finding
+Answer (Makes seed filters documents) = Output
+Answer Serves = Output
 
-abbrev pub is_of_filter : OutLine → Bool
-is_of_filter (NoFilter fault) = true
-is_of_filter _ = false
+-- this is the answer to the form, where the source has these bytes
+abbrev pub IsAnswer : (form : Form) → (bytes : List ℕ) → Answer form → Type 0
+IsAnswer (Matches filter) bytes line = AnswersMatch filter bytes line
+IsAnswer (Shows filter) bytes output = OutShow filter output.0 output.1
+IsAnswer (Explains filter) bytes finding = outputs.Explains filter bytes finding
+IsAnswer (Verifies filter) bytes finding = outputs.Verifies filter bytes finding
+IsAnswer (Makes seed filters documents) bytes output = (output.0 ≡ feed seed filters documents) × (output.1 ≡ Done)
+IsAnswer Serves bytes output = Out bytes output.0 output.1
 
--- The line answers a filter's text and the document that is left in the source. A fault of the filter is answered before anything is read.
-pub record IsLineFor (filter : List ℕ) (left after : Option (List ℕ)) (line : OutLine) : Type 0 where
-  pub answers : (bytes : List ℕ) → left ≡ Some bytes → AnswersMatch filter bytes line
-  pub read_whole : IsTrue (needs_all line) → IsSpent after
-  pub unread : IsTrue (is_of_filter line) → after ≡ left
+-- what is written of an answer
+abbrev pub answer_text : (form : Form) → Answer form → List ℕ
+answer_text (Matches filter) line = line_text line
+answer_text (Shows filter) output = output.0
+answer_text (Explains filter) finding = findings.text finding
+answer_text (Verifies filter) finding = findings.text finding
+answer_text (Makes seed filters documents) output = output.0
+answer_text Serves output = output.0
 
--- The line answers the document that is left in the source under a filter.
-pub record IsLineUnder (filter : Way) (left after : Option (List ℕ)) (line : OutLine) : Type 0 where
-  pub answers : (bytes : List ℕ) → left ≡ Some bytes → AnswersDocument filter bytes line
-  pub read_whole : IsTrue (needs_all line) → IsSpent after
-  pub of_document : is_of_filter line ≡ false
+-- and how the run ends
+abbrev pub answer_status : (form : Form) → Answer form → Status
+answer_status (Matches filter) line = status_behind line
+answer_status (Shows filter) output = output.1
+answer_status (Explains filter) finding = findings.status finding
+answer_status (Verifies filter) finding = findings.status finding
+answer_status (Makes seed filters documents) output = output.1
+answer_status Serves output = output.1
 
--- A run of `match` that was not cut short wrote one line, which answers the filter and the document, and ended as the line says.
-pub record Matched (filter : List ℕ) (left after held held_after : Option (List ℕ)) (status : Status) : Type 0 where
-  pub line : OutLine
-  pub is_for : IsLineFor filter left after line
-  pub written : AddsTo held (line_text line) held_after
-  pub ended : status ≡ status_behind line
+abbrev pub is_done : Status → Bool
+is_done Done = true
+is_done _ = false
 
--- A run of `show` that was not cut short read nothing, and wrote what is shown of the filter.
-pub record Shown (filter : List ℕ) (left after held held_after : Option (List ℕ)) (status : Status) : Type 0 where
-  pub text : List ℕ
-  pub is_for : OutShow filter text status
-  pub written : AddsTo held text held_after
-  pub unread : after ≡ left
+-- whether an answer is known only once the whole input is read
+abbrev pub needs_all : (form : Form) → Answer form → Bool
+needs_all (Matches filter) line = findings.line_needs_all line
+needs_all (Shows filter) output = false
+needs_all (Explains filter) finding = findings.needs_all finding
+needs_all (Verifies filter) finding = findings.needs_all finding
+needs_all (Makes seed filters documents) output = false
+needs_all Serves output = is_done output.1
 
--- A run of `explain` or of `verify` that was not cut short wrote what is found, and ended as that says.
-pub record Proved (finds : (bytes : List ℕ) → Finding → Type 0) (left after held held_after : Option (List ℕ)) (status : Status) : Type 0 where
-  pub finding : Finding
-  pub is_found : IsFound finds left after finding
-  pub written : AddsTo held (findings.text finding) held_after
-  pub ended : status ≡ findings.status finding
+-- whether it is known before anything is read
+abbrev pub needs_none : (form : Form) → Answer form → Bool
+needs_none (Matches filter) line = findings.line_is_of_filter line
+needs_none (Shows filter) output = true
+needs_none (Explains filter) finding = findings.is_of_filter finding
+needs_none (Verifies filter) finding = findings.is_of_filter finding
+needs_none (Makes seed filters documents) output = true
+needs_none Serves output = false
 
--- A run of `make` that was not cut short read nothing, and wrote the feed.
-pub record Made (seed filters documents : ℕ) (left after held held_after : Option (List ℕ)) (status : Status) : Type 0 where
-  pub written : AddsTo held (feed seed filters documents) held_after
-  pub ended : status ≡ Done
-  pub unread : after ≡ left
-
--- A run of `serial` that was not cut short wrote the output for the feed that was left in the source. Where all went well the feed was read to its end.
-pub record Served (left after held held_after : Option (List ℕ)) (status : Status) : Type 0 where
-  pub text : List ℕ
-  pub is_for : (bytes : List ℕ) → left ≡ Some bytes → Out bytes text status
-  pub written : AddsTo held text held_after
-  pub read_whole : status ≡ Done → IsSpent after
-
--- what a run that was not cut short answers
-abbrev pub Answers : Form → (left after held held_after : Option (List ℕ)) → Status → Type 0
-Answers (Matches filter) = Matched filter
-Answers (Shows filter) = Shown filter
-Answers (Explains filter) = Proved (outputs.Explains filter)
-Answers (Verifies filter) = Proved (outputs.Verifies filter)
-Answers (Makes seed filters documents) = Made seed filters documents
-Answers Serves = Served
-
--- the text and the status of `make`
-abbrev pub OutMake : (seed filters documents : ℕ) → (text : List ℕ) → Status → Type 0
-OutMake seed filters documents text status = (text ≡ feed seed filters documents) × (status ≡ Done)
-
--- the text and the status for a form and the bytes of the source
+-- the text and the status of a form, where the source has these bytes
 abbrev pub OutOf : Form → (bytes text : List ℕ) → Status → Type 0
-OutOf (Matches filter) bytes = OutMatch filter bytes
-OutOf (Shows filter) bytes = OutShow filter
-OutOf (Explains filter) bytes = OutExplain filter bytes
-OutOf (Verifies filter) bytes = OutVerify filter bytes
-OutOf (Makes seed filters documents) bytes = OutMake seed filters documents
-OutOf Serves bytes = Out bytes
+OutOf form bytes text status =
+    (answer : Answer form) × IsAnswer form bytes answer × (text ≡ answer_text form answer) × (status ≡ answer_status form answer)
+
+-- what a source and a sink tell at some moment: the bytes that are left and those that are held, and the counts of their faults
+pub record Moment : Type 0 where
+  pub left : Option (List ℕ)
+  pub held : Option (List ℕ)
+  pub read_faults : ℕ
+  pub write_faults : ℕ
+
+abbrev pub moment : (left held : Option (List ℕ)) → (read_faults write_faults : ℕ) → Moment
+moment left held read_faults write_faults = record { left = left; held = held; read_faults = read_faults; write_faults = write_faults }
+
+-- whether the form reads its source
+abbrev pub reads : Form → Bool
+reads (Shows filter) = false
+reads (Makes seed filters documents) = false
+reads _ = true
+
+-- a form that reads its source finds these bytes there; one that reads nothing would answer the same to any
+abbrev pub Finds : Form → (left : Option (List ℕ)) → (bytes : List ℕ) → Type 0
+Finds (Matches filter) left bytes = left ≡ Some bytes
+Finds (Shows filter) left bytes = Unit {0}
+Finds (Explains filter) left bytes = left ≡ Some bytes
+Finds (Verifies filter) left bytes = left ≡ Some bytes
+Finds (Makes seed filters documents) left bytes = Unit {0}
+Finds Serves left bytes = left ≡ Some bytes
+
+-- What was written is the output, by an answer for which the source was read as far as it needs.
+pub record IsOutput (form : Form) (left after : Option (List ℕ)) (written : List ℕ) (status : Status) : Type 0 where
+  pub answer : Answer form
+  pub answers : (bytes : List ℕ) → Finds form left bytes → IsAnswer form bytes answer
+  pub written_is : written ≡ answer_text form answer
+  pub ended : status ≡ answer_status form answer
+  pub read_whole : IsTrue (needs_all form answer) → IsSpent after
+  pub unread : IsTrue (needs_none form answer) → after ≡ left
 
 -- These bytes are the front of the output: nothing yet, or a front of its text.
 abbrev pub IsFrontOfOut : Form → (bytes written : List ℕ) → Type 0
 IsFrontOfOut form bytes written =
     (written ≡ []) ⊎ ((text rest : List ℕ) × (status : Status) × OutOf form bytes text status × (text ≡ written ++ rest))
 
--- a run that was cut short wrote the front of its output
-pub record WritesFront (form : Form) (left held held_after : Option (List ℕ)) : Type 0 where
-  pub bytes_written : List ℕ
-  pub written : AddsTo held bytes_written held_after
-  pub is_front : (bytes : List ℕ) → left ≡ Some bytes → IsFrontOfOut form bytes bytes_written
+-- What was written is the front of the output.
+abbrev pub IsFront : Form → (left : Option (List ℕ)) → (written : List ℕ) → Type 0
+IsFront form left written = (bytes : List ℕ) → Finds form left bytes → IsFrontOfOut form bytes written
 
--- A run of `serial` whose source met a fault wrote the lines of the items that are whole in the bytes read.
-pub record ServedWhole (left after held held_after : Option (List ℕ)) : Type 0 where
+-- What was written are the lines of the items that are whole in the bytes read.
+pub record AreLinesOfWhole (left after : Option (List ℕ)) (written : List ℕ) : Type 0 where
   pub bytes : List ℕ
   pub read : TakesFrom left bytes after
   pub items : List Item
   pub are_whole : AreWhole bytes items
   pub lines : List OutLine
   pub are_lines : AreLines items lines
-  pub written : AddsTo held (text_of lines) held_after
+  pub written_is : written ≡ text_of lines
 
--- What a run whose source met a fault wrote: nothing, but of a feed the lines of its whole items. Nothing that was read whole is at fault. Without a source there is no such run.
-abbrev pub WritesWhole : Form → (left after held held_after : Option (List ℕ)) → Type 0
-WritesWhole (Matches filter) left after held held_after = CutAtDocument filter left after × (held_after ≡ held)
-WritesWhole (Shows filter) left after held held_after = ⊥
-WritesWhole (Explains filter) left after held held_after = CutAtDocument filter left after × (held_after ≡ held)
-WritesWhole (Verifies filter) left after held held_after = CutAtProof filter left after × (held_after ≡ held)
-WritesWhole (Makes seed filters documents) left after held held_after = ⊥
-WritesWhole Serves left after held held_after = ServedWhole left after held held_after
+-- What was written where the source met a fault: nothing, but of a feed the lines of its whole items. Nothing that was read whole is at fault. A form that reads nothing meets no such fault.
+abbrev pub IsOfWhole : Form → (left after : Option (List ℕ)) → (written : List ℕ) → Type 0
+IsOfWhole (Matches filter) left after written = CutAtDocument filter left after × (written ≡ [])
+IsOfWhole (Shows filter) left after written = ⊥
+IsOfWhole (Explains filter) left after written = CutAtDocument filter left after × (written ≡ [])
+IsOfWhole (Verifies filter) left after written = CutAtProof filter left after × (written ≡ [])
+IsOfWhole (Makes seed filters documents) left after written = ⊥
+IsOfWhole Serves left after written = AreLinesOfWhole left after written
 
--- the run was not cut short
-abbrev pub is_finished : Status → Bool
-is_finished Done = true
-is_finished Refused = true
-is_finished _ = false
+-- What was written, by the status: the output, or of one that was cut short a front. Words that are in a form are no `Usage`.
+abbrev pub Wrote : Status → Form → (left after : Option (List ℕ)) → (written : List ℕ) → Type 0
+Wrote Done form left after written = IsOutput form left after written Done
+Wrote Refused form left after written = IsOutput form left after written Refused
+Wrote Usage form left after written = ⊥
+Wrote ReadFault form left after written = IsOfWhole form left after written
+Wrote WriteFault form left after written = IsFront form left written
+Wrote Memory form left after written = IsFront form left written
 
--- the run was cut short by its sink or for want of memory
-abbrev pub is_cut_short : Status → Bool
-is_cut_short WriteFault = true
-is_cut_short Memory = true
-is_cut_short _ = false
+-- A run of a form, from one moment to another, that ended with this status.
+pub record Ran (form : Form) (before after : Moment) (status : Status) : Type 0 where
+  pub written : List ℕ
+  pub added : AddsTo before.held written after.held
+  pub wrote : Wrote status form before.left after.left written
+  -- also where it was cut short
+  pub unread : IsFalse (reads form) → after.left ≡ before.left
+  pub read_fault : status ≡ ReadFault → Rose before.read_faults after.read_faults
+  pub write_fault : status ≡ WriteFault → Rose before.write_faults after.write_faults
+  pub read_counts : before.read_faults ≤ after.read_faults
+  pub write_counts : before.write_faults ≤ after.write_faults
+
+-- Words in no form are answered so, or, where they name a command with options, for want of memory. The source and the sink are as they were.
+pub record RanNot (has_options : Bool) (before after : Moment) (status : Status) : Type 0 where
+  pub ended : (status ≡ Usage) ⊎ (IsTrue has_options × (status ≡ Memory))
+  pub untouched : after ≡ before

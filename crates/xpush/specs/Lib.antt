@@ -1,6 +1,7 @@
 pub mod Forms
 pub mod Fronts
 pub mod Answers
+pub mod Runs
 pub mod Documents
 pub mod Noting
 pub mod OptionRows

@@ -18,7 +18,7 @@ use Rattle.px_workload.specs.declared.change.Change.{Change}
 use Rattle.px_workload.specs.Changes.{history}
 use Rattle.px_xpath.specs.Histories.{live}
 use Rattle.px_tiers.specs.Standings.{StandFor}
-use Rattle.xpush.specs.Answers.{Served, ServedWhole, WritesFront, is_finished, is_cut_short}
+use Rattle.xpush.specs.Runs.{Served, ServedWhole, WritesFront, is_finished, is_cut_short}
 use Rattle.xpush.specs.Forms.{Serves}
 use Rattle.xpush.specs.Replying.{Answered}
 use Rattle.xpush.specs.Waiting.{HasSaid}

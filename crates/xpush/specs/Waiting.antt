@@ -7,7 +7,7 @@ use Rattle.px_feed.specs.declared.status.Status.{Status}
 use Rattle.px_feed.specs.declared.status.Status.TheVariants.{Done, Refused, ReadFault, WriteFault, Memory}
 use Rattle.px_feed.specs.Lines.{is_refusal}
 use Rattle.px_feed.specs.Outputs.{text_of, status_of}
-use Rattle.xpush.specs.Answers.{is_cut_short}
+use Rattle.xpush.specs.Runs.{is_cut_short}
 use Rattle.xpush.specs.Fronts.{AddsFront}
 use Rattle.xpush.specs.declared.outgoing.Outgoing.{Outgoing}
 

@@ -2,7 +2,7 @@
 
 ghost use Rattle.std.specs.Prelude.{◌≡◌, ◌≤◌, ◌||◌, List, ℕ, Option, IsTrue};
 ghost use Rattle.px_io.specs.Faults.{Rose};
-ghost use Rattle.xpush.specs.Answers.{Made, WritesFront, is_finished, is_cut_short};
+ghost use Rattle.xpush.specs.Runs.{Made, WritesFront, is_finished, is_cut_short};
 ghost use Rattle.xpush.specs.Forms.{Makes};
 
 use crate::output::write_answer;

@@ -12,7 +12,7 @@ ghost use Rattle.px_xpath.specs.Whole.{filter as way_of};
 ghost use Rattle.px_afa.specs.Building.{automata};
 ghost use Rattle.px_document.specs.CutShort.{CutAtDocument};
 ghost use Rattle.px_document.specs.Documents.{GivesFine};
-ghost use Rattle.xpush.specs.Answers.{IsLineFor, IsLineUnder, Matched, WritesFront, is_finished, is_cut_short};
+ghost use Rattle.xpush.specs.Runs.{IsLineFor, IsLineUnder, Matched, WritesFront, is_finished, is_cut_short};
 ghost use Rattle.xpush.specs.Documents.{GivesFault, GivesMatch};
 ghost use Rattle.xpush.specs.Forms.{Matches};
 ghost use Rattle.xpush.specs.Stops.{outcome_of, refusal_of};

@@ -3,7 +3,7 @@
 ghost use Rattle.std.specs.Prelude.{◌≡◌, ◌≤◌, ◌||◌, IsTrue};
 ghost use Rattle.px_io.specs.Faults.{Rose};
 ghost use Rattle.px_io.specs.Flows.{AddsTo};
-ghost use Rattle.xpush.specs.Answers.{is_finished, is_cut_short};
+ghost use Rattle.xpush.specs.Runs.{is_finished, is_cut_short};
 ghost use Rattle.xpush.specs.Fronts.{AddsFront};
 
 use px_feed::Status;

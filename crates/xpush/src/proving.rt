@@ -6,7 +6,7 @@ ghost use Rattle.px_io.specs.Flows.{AddsTo};
 ghost use Rattle.px_document.specs.CutShort.{CutAtDocument, CutAtProof};
 ghost use Rattle.px_document.specs.Findings as findings;
 ghost use Rattle.px_document.specs.Outputs as outputs;
-ghost use Rattle.xpush.specs.Answers.{Proved, WritesFront, is_finished, is_cut_short};
+ghost use Rattle.xpush.specs.Runs.{Proved, WritesFront, is_finished, is_cut_short};
 ghost use Rattle.xpush.specs.Forms.{Explains, Verifies};
 ghost use Rattle.xpush.specs.Fronts.{AddsFront};
 

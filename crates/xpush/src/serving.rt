@@ -3,7 +3,7 @@
 ghost use Rattle.std.specs.Prelude.{◌≡◌, ◌≤◌, Err, IsTrue, IfOk, IsOk, OnOk};
 ghost use Rattle.px_io.specs.Faults.{Rose};
 ghost use Rattle.px_feed.specs.declared.item.Item.TheVariants as items;
-ghost use Rattle.xpush.specs.Answers.{Served, ServedWhole, WritesFront, is_finished, is_cut_short};
+ghost use Rattle.xpush.specs.Runs.{Served, ServedWhole, WritesFront, is_finished, is_cut_short};
 ghost use Rattle.xpush.specs.Forms.{Serves};
 ghost use Rattle.xpush.specs.Standing.{Streams, streams, Rests, Holds, Ended, TakesNext, TakesUp, ServesItem, Replies, SaysLine, KeepsUp};
 

@@ -3,7 +3,7 @@
 ghost use Rattle.std.specs.Prelude.{◌≡◌, ◌≤◌, ◌++◌, ◌∷◌, ◌||◌, [], List, ℕ, Option, IfOk, IsTrue};
 ghost use Rattle.px_feed.specs.Matches.{OutShow};
 ghost use Rattle.px_io.specs.Faults.{Rose};
-ghost use Rattle.xpush.specs.Answers.{Shown, WritesFront, is_finished, is_cut_short};
+ghost use Rattle.xpush.specs.Runs.{Shown, WritesFront, is_finished, is_cut_short};
 ghost use Rattle.px_xpath.specs.Whole.{filter as way_of};
 ghost use Rattle.xpush.specs.Forms.{Shows};
 ghost use Rattle.xpush.specs.Showing.{ShowsPrinted, ShowsRefusal};
