@@ -1,4 +1,4 @@
--- What is written by `explain` and by `verify`.
+-- What `explain` and `verify` find.
 use Rattle.std.specs.Prelude.{◌≡◌, ◌⊎◌, ℕ, List, Option, Some, Result, MatchResult, IsTrue, false}
 use Rattle.px_text.specs.Nodes.{Root}
 use Rattle.px_io.specs.Flows.{IsSpent}
@@ -8,7 +8,6 @@ use Rattle.px_xpath.specs.Meaning.{holds}
 use Rattle.px_xpath.specs.declared.fault.FilterFault.{FilterFault}
 use Rattle.px_feed.specs.Matches.{Parses, faulty}
 use Rattle.px_feed.specs.declared.line.OutLine.TheVariants as line
-use Rattle.px_feed.specs.declared.status.Status.{Status}
 use Rattle.px_explain.specs.Bounds.{Exceeds}
 use Rattle.px_explain.specs.Canonical.{canonical}
 use Rattle.px_explain.specs.Checking.{Shows}
@@ -16,7 +15,7 @@ use Rattle.px_explain.specs.Openings.{Opening, Opens, ProofThen, NoProofAt, TooM
 use Rattle.px_explain.specs.declared.checker.Checked.{Checked}
 use Rattle.px_explain.specs.declared.checker.Checked.TheVariants.{Yes, No, Wrong}
 use Rattle.px_explain.specs.declared.node.ProofNode.{ProofNode}
-use Rattle.px_document.specs.Findings.{text, status, needs_all, is_of_filter}
+use Rattle.px_document.specs.Findings.{needs_all, is_of_filter}
 use Rattle.px_document.specs.declared.finding.Finding.{Finding}
 use Rattle.px_document.specs.declared.finding.Finding.TheVariants.{Line, NoProofLine, ProofTooMany, WrongNode, Explained}
 
@@ -67,14 +66,6 @@ Explains filter bytes = UnderFilter (λ way. ExplainsDocument way bytes) filter
 -- what `verify` finds of a filter's text and the bytes of a proof and a document
 abbrev pub Verifies : (filter bytes : List ℕ) → Finding → Type 0
 Verifies filter bytes = UnderFilter (λ way. VerifiesInput way bytes) filter
-
--- the text and the status of `explain`
-abbrev pub OutExplain : (filter bytes written : List ℕ) → Status → Type 0
-OutExplain filter bytes written ended = (finding : Finding) × Explains filter bytes finding × (written ≡ text finding) × (ended ≡ status finding)
-
--- the text and the status of `verify`
-abbrev pub OutVerify : (filter bytes written : List ℕ) → Status → Type 0
-OutVerify filter bytes written ended = (finding : Finding) × Verifies filter bytes finding × (written ≡ text finding) × (ended ≡ status finding)
 
 -- This is found of the bytes that are left in a source. A fault of the filter is found before anything is read.
 pub record IsFound (finds : (bytes : List ℕ) → Finding → Type 0) (left after : Option (List ℕ)) (finding : Finding) : Type 0 where
