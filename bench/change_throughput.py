@@ -1,7 +1,7 @@
 #!/usr/bin/env python3
 """Times xpush serial where filters change between documents, beside the same documents without changes.
 
-    bench/change_throughput.py [--binary FILE] [--beside FILE] [--documents N] [--filters N ..] [--every N] [--seed N] [--runs N]
+    bench/change_throughput.py [--binary FILE] [--beside FILE] [--documents N] [--filters N ..] [--every N] [--seed N] [--runs N] [--instructions]
 
 The filters and the documents are those of 'xpush make'. One feed has them alone; another has, before
 every sixteenth document (--every), one drop of a filter that is live and one add of another. Both
@@ -9,11 +9,13 @@ rates are those behind the time for the filters alone. What a change costs is gi
 seconds that the changes took more, by their number, as a multiple of the seconds of a document
 without changes. The runs of the three feeds take turns, and the best of each counts. --beside names
 another xpush, as an older build, of which the rate with changes is given too, if its lines are the
-same.
+same. Beside other load the ratio of one run may be a third off. --instructions counts instructions by
+valgrind in place of seconds: that takes much longer, and gives nearly the same each time.
 """
 import argparse
 import pathlib
 import random
+import re
 import subprocess
 import sys
 import tempfile
@@ -68,8 +70,29 @@ def best_times(runs, binary, folder, feeds):
     return {feed: min(spent) for feed, spent in seconds.items()}, memory
 
 
+def counted(binary, feed):
+    """How many instructions a run over a feed takes."""
+    words = ["valgrind", "--tool=cachegrind", "--cache-sim=no", "--cachegrind-out-file=/dev/null", binary, "serial"]
+    with open(feed, "rb") as source:
+        done = subprocess.run(words, stdin=source, stdout=subprocess.DEVNULL, stderr=subprocess.PIPE, text=True)
+    found = re.search(r"I\s+refs:\s+([\d,]+)", done.stderr)
+    if found is None:
+        sys.exit("valgrind counted nothing:\n" + done.stderr[-600:])
+    return int(found.group(1).replace(",", ""))
+
+
+def counted_row(options, folder, filters, changes):
+    alone, same, changing = (counted(options.binary, folder / feed) for feed in ("alone", "same", "changing"))
+    print("%6d filters: %5.3f million instructions a document with %d changes, %5.3f without, which is %4.2f of it; a change costs %5.2f documents"
+          % (filters, (changing - alone) / options.documents / 1e6, changes, (same - alone) / options.documents / 1e6,
+             (same - alone) / (changing - alone), (changing - same) / changes / ((same - alone) / options.documents)))
+    return True
+
+
 def row(options, folder, filters):
     changes = write_feeds(options, folder, filters)
+    if options.instructions:
+        return counted_row(options, folder, filters, changes)
     times, memory = best_times(options.runs, options.binary, folder, ["alone", "same", "changing"])
     same = max(times["same"] - times["alone"], 1e-9)
     changing = max(times["changing"] - times["alone"], 1e-9)
@@ -97,6 +120,7 @@ def main():
     parser.add_argument("--filters", type=int, nargs="*", default=[100, 1_000, 10_000, 50_000])
     parser.add_argument("--every", type=int, default=16, help="documents between two changes")
     parser.add_argument("--runs", type=int, default=3)
+    parser.add_argument("--instructions", action="store_true", help="count instructions by valgrind, and time nothing")
     options = parser.parse_args()
     all_same = True
     with tempfile.TemporaryDirectory() as name:
