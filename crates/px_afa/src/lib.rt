@@ -24,8 +24,6 @@ mod names;
 mod path_tables;
 mod program;
 mod state;
-#[cfg(test)]
-mod tests;
 mod value_tables;
 
 pub use laws::{

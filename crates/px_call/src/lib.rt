@@ -49,8 +49,6 @@ mod laws;
 mod solving;
 mod stepping;
 mod tally;
-#[cfg(test)]
-mod tests;
 
 pub use bank_memo::BankMemo;
 pub use call::BankCall;

@@ -13,8 +13,6 @@ mod finding;
 mod laws;
 mod opening;
 mod stop;
-#[cfg(test)]
-mod tests;
 mod verifying;
 
 pub use explaining::explanation;

@@ -26,8 +26,6 @@ mod proof;
 mod proof_reader;
 mod reading;
 mod serving;
-#[cfg(test)]
-mod tests;
 mod writer;
 
 pub use checker::{Checked, check};

@@ -213,19 +213,3 @@ fn write_group(draws: &mut Draws, out: &mut Vec<u8>) -> Result<(), AllocError>
     ];
     out.extend_from_slice(&lines)
 }
-
-#[cfg(test)]
-mod tests {
-    use super::*;
-    use std::test::Fail;
-
-    #[test]
-    fn two_filters_and_a_document(rt: HostRuntime) -> Result<(), Fail> {
-        let feed = generate(rt.alloc(), 1, 2, 1)?;
-        assert_eq!(rt;
-            feed.as_slice(),
-            b"+//e6[not(e1)]\n+//e3[text()>7 or .//e2]\n(r\n(e3\nAk 2\n(e6\n-9\n)e6\n)e3\n(e7\nAk 4\n(e4\n-5\n)e4\n)e7\n(e7\nAk 9\n(e7\n-7\n)e7\n)e7\n(e6\nAk 6\n(e2\n-5\n)e2\n)e6\n)r\n".as_slice()
-        );
-        Ok(())
-    }
-}

@@ -39,6 +39,3 @@ pub use laws::{
 };
 pub use line::{FeedFault, FeedKind, OutLine, line_of};
 pub use status::Status;
-
-#[cfg(test)]
-mod tests;

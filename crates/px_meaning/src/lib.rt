@@ -15,8 +15,6 @@ mod comparisons;
 mod conditions;
 mod paths;
 mod place;
-#[cfg(test)]
-mod tests;
 
 pub use conditions::condition_holds;
 use paths::steps_hold;

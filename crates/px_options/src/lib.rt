@@ -3,8 +3,6 @@
 #![tactic(auto)]
 
 mod numbers;
-#[cfg(test)]
-mod tests;
 
 ghost use Rattle.std.specs.Prelude.{◌≡◌, ◌≢◌, false, codes, IfOk, IsTrue, length, map, string_bytes};
 ghost use Rattle.std.specs.List.{list_all};

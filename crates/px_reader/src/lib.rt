@@ -33,6 +33,3 @@ pub use happening::Happening;
 pub use laws::{machine_is_right, verdicts_are_one, what_is_spelt_is_a_tree};
 pub use reader::Reader;
 pub use recorder::Recorder;
-
-#[cfg(test)]
-mod tests;

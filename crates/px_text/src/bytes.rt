@@ -227,18 +227,3 @@ impl Ord for Words {
         self.items.cmp(&other.items)
     }
 }
-
-#[cfg(test)]
-mod tests {
-    use super::*;
-    use std::test::Fail;
-
-    #[test]
-    fn orders_bytes_as_texts(rt: HostRuntime) -> Result<(), Fail> {
-        let short = Bytes::of(rt.alloc(), b"ab")?;
-        let long = Bytes::of(rt.alloc(), b"abc")?;
-        assert_eq!(rt; short.cmp(&long), Ordering::Less);
-        assert_eq!(rt; long.clone()?, long);
-        Ok(())
-    }
-}

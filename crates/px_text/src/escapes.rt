@@ -39,17 +39,3 @@ fn read_escape(escape: &[u8]) -> &[u8]
         _ => escape,
     }
 }
-
-#[cfg(test)]
-mod tests {
-    use super::*;
-    use std::test::Fail;
-
-    #[test]
-    fn reads_escapes_behind_what_is_there(rt: HostRuntime) -> Result<(), Fail> {
-        let mut out = Vec::from_slice(rt.alloc(), b"<")?;
-        unescape(b"x\\ty\\n\\\\r\\r\\q\\", &mut out)?;
-        assert_eq!(rt; out.as_slice(), b"<x\ty\n\\r\r\\q\\".as_slice());
-        Ok(())
-    }
-}

@@ -109,30 +109,3 @@ fn ends_filter_name(text: &[u8]) -> bool
     }
     true
 }
-
-#[cfg(test)]
-mod tests {
-    use super::*;
-
-    #[test]
-    fn tells_names(rt: HostRuntime) {
-        let rows = [
-            ("a", true, true),
-            ("é", true, true),
-            ("_a.b-c1", true, true),
-            ("a:b", true, true),
-            ("a:b:c", true, false),
-            ("a:", true, false),
-            (":a", true, false),
-            ("a:1", true, false),
-            ("1a", false, false),
-            ("-a", false, false),
-            ("a b", false, false),
-            ("", false, false),
-        ];
-        for (text, in_document, in_filter) in rows {
-            assert_eq!(rt; is_pyx_name(text.as_bytes()), in_document, "at {text}");
-            assert_eq!(rt; is_filter_name(text.as_bytes()), in_filter, "at {text}");
-        }
-    }
-}

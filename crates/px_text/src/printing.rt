@@ -95,34 +95,3 @@ fn push_places(fraction: u64, out: &mut Vec<u8>)
         rest %= unit;
     }
 }
-
-#[cfg(test)]
-mod tests {
-    use super::*;
-    use crate::reading::Reading;
-    use std::test::Fail;
-
-    #[test]
-    fn prints_what_it_read(rt: HostRuntime) -> Result<(), Fail> {
-        let rows = [
-            ("-0.50", "-0.5"),
-            (".50", "0.5"),
-            ("-0", "0"),
-            ("5.", "5"),
-            ("-0070", "-70"),
-            ("0.000000000000000001", "0.000000000000000001"),
-            (
-                "999999999999999999.999999999999999999",
-                "999999999999999999.999999999999999999",
-            ),
-        ];
-        for (text, printed) in rows {
-            let mut out = Vec::new(rt.alloc());
-            if let Reading::Value(decimal) = Decimal::read(text.as_bytes()) {
-                decimal.write(&mut out)?;
-            }
-            assert_eq!(rt; out.as_slice(), printed.as_bytes(), "at {text}");
-        }
-        Ok(())
-    }
-}

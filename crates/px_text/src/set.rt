@@ -130,18 +130,3 @@ impl Ord for Set {
         self.items.cmp(&other.items)
     }
 }
-
-#[cfg(test)]
-mod tests {
-    use super::*;
-    use std::test::Fail;
-
-    #[test]
-    fn has_its_numbers_and_no_others(rt: HostRuntime) -> Result<(), Fail> {
-        let set = Set::of(rt.alloc(), &[3, 5, 1_048_575])?;
-        assert!(rt; set.has(5));
-        assert!(rt; !set.has(4));
-        assert_eq!(rt; set.clone()?, set);
-        Ok(())
-    }
-}

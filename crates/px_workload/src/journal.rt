@@ -221,6 +221,3 @@ impl Journal {
         Ok(Live::of(shares_after(alloc, &self.table.slots, change)?))
     }
 }
-
-#[cfg(test)]
-mod tests;

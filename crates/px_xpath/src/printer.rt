@@ -275,28 +275,3 @@ fn quote_of(text: &[u8]) -> u8
     }
     b'"'
 }
-
-#[cfg(test)]
-mod tests {
-    use crate::filter::{Axis, Filter, Path, Step, Test};
-    use crate::printer::print;
-    use crate::sizes::size;
-    use px_text::Bytes;
-    use sqlite_items::Items;
-    use std::test::Fail;
-
-    #[test]
-    fn prints_a_step(rt: HostRuntime) -> Result<(), Fail> {
-        let alloc = rt.alloc();
-        let mut steps = Items::new(alloc);
-        steps.push(Step {
-            axis: Axis::Below,
-            test: Test::Attribute(Bytes::of(alloc, b"id")?),
-            conds: Items::new(alloc),
-        })?;
-        let filter = Filter::of(alloc, Path { steps })?;
-        assert_eq!(rt; print(alloc, &filter)?.as_slice(), b"//@id".as_slice());
-        assert_eq!(rt; size(&filter), 1);
-        Ok(())
-    }
-}

@@ -45,20 +45,3 @@ impl Numbered {
         })
     }
 }
-
-#[cfg(test)]
-mod tests {
-    use crate::parser::parse;
-    use crate::printer::print;
-    use std::test::Fail;
-
-    #[test]
-    fn a_share_prints_as_its_filter(rt: HostRuntime) -> Result<(), Fail> {
-        let text = b"/a[@b='c' and not(d<1)]//text()".as_slice();
-        let filter = parse(rt.alloc(), text)?;
-        let shared = filter.share()?;
-        let printed = print(rt.alloc(), &filter)?;
-        assert_eq!(rt; print(rt.alloc(), &shared)?.as_slice(), printed.as_slice());
-        Ok(())
-    }
-}

@@ -4,11 +4,9 @@ ghost use Rattle.px_rule.specs.declared.view.Kind.TheVariants.{Desk};
 ghost use Rattle.px_rule.specs.Table.{is_inside};
 ghost use Rattle.px_rule.specs.Words.{IsShape};
 
-use crate::call::BankCall;
-use crate::law::ProgramLaw;
-use crate::tally::Tally;
 use px_afa::Program;
 use px_banks::{Enter, enter};
+use px_call::{BankCall, ProgramLaw, Tally};
 use px_prune::Compiled;
 use px_reader::Happening;
 use px_rule::{Law, Seat, Shape, Shared};

@@ -1,6 +1,6 @@
 use Rattle.std.proofs.Common.{ℕ, List}
 use Rattle.px_explain.specs.Incoming.{HasTaken}
-use Rattle.px_explain.proofs.tests.read_pieces.Given as goal
+use Rattle.px_rows.proofs.explanations.read_pieces.Given as goal
 
 abbrev pub invariant-loop-piece : goal.invariant-loop-piece
 invariant-loop-piece l = record {

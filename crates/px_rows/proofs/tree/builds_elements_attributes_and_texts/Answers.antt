@@ -1,6 +1,6 @@
 use Rattle.std.proofs.Common.{[], ◌∷◌, refl}
 use Rattle.px_text.specs.Nodes.{NoNodes, TextThen, ElementThen}
-use Rattle.px_tree.proofs.from_events.tests.builds_elements_attributes_and_texts.Goals as goal
+use Rattle.px_rows.proofs.tree.builds_elements_attributes_and_texts.Goals as goal
 
 pub build-requires : goal.build-requires
 build-requires g c = record {

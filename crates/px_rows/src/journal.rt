@@ -1,6 +1,4 @@
-use crate::change::Change;
-use crate::journal::Journal;
-use crate::live::Live;
+use px_workload::{Change, Journal, Live};
 use px_xpath::{ParseFault, parse};
 use std::alloc::{AllocError, Global};
 use std::test::Fail;

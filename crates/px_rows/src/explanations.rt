@@ -1,6 +1,6 @@
 //! Texts from outside, and a proof that is made, written, read and checked.
 
-use crate::{
+use px_explain::{
     Checked, ExplainFault, ProofFault, ProofReader, check, explain, read_proof, write_proof,
 };
 use px_text::Bytes;

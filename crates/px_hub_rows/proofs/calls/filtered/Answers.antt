@@ -2,7 +2,7 @@ use Rattle.std.proofs.Common.{[], ◌∷◌, arith}
 use Rattle.px_text.specs.Nodes.{Root, NoNodes}
 use Rattle.px_reader.specs.declared.event.Event.TheVariants.{Start, End}
 use Rattle.px_call.proofs.Running.{of_its_seat}
-use Rattle.px_call.proofs.tests.filtered.Goals as goal
+use Rattle.px_hub_rows.proofs.calls.filtered.Goals as goal
 
 pub event-requires-2-clause-begun : goal.event-requires-2-clause-begun
 event-requires-2-clause-begun g c =

@@ -1,6 +1,6 @@
 //! What is found of small inputs.
 
-use crate::{Cut, Finding, explanation, text_of, verification};
+use px_document::{Cut, Finding, explanation, text_of, verification};
 use px_feed::Status;
 use px_io::MemSource;
 use px_text::Bytes;

@@ -1,6 +1,6 @@
 //! Programs of a few filters.
 
-use crate::{Body, Program, State};
+use px_afa::{Body, Program, State};
 use px_xpath::{Axis, Numbered, Test, parse, size};
 use std::alloc::Global;
 use std::test::Fail;

@@ -7,7 +7,7 @@ ghost use Rattle.px_xpath.specs.Views.{conditions, way};
 ghost use Rattle.px_xpath.specs.declared.filter.Axis.TheVariants.{Child};
 ghost use Rattle.px_xpath.specs.declared.filter.Test.TheVariants as test;
 
-use crate::holds;
+use px_meaning::holds;
 use px_text::{Bytes, Decimal};
 use px_tree::{Element, Node, Tree};
 use px_xpath::{Axis, Cond, Filter, Path, Relation, Step, Test, Value};
@@ -16,6 +16,7 @@ use std::alloc::{AllocError, Global};
 use std::test::Fail;
 
 // The path of one step, down to the elements of a name.
+#[tactic(auto, using(px_xpath::proofs::FilterViews::views, px_tree::proofs::TreeViews::views))]
 fn path_to(alloc: Global, name: &[u8], conds: Items<Cond>) -> Result<Path, AllocError>
     ensures { IfOk result (λ path. way path ≡
         StepThen Child (test.Element name.now) (conditions conds) Arrived) }
@@ -37,6 +38,7 @@ fn element(alloc: Global, name: &[u8], children: Items<Node>) -> Result<Element,
     })
 }
 
+#[tactic(auto, using(px_xpath::proofs::FilterViews::views, px_tree::proofs::TreeViews::views))]
 #[test]
 fn tells_elements_by_name(rt: HostRuntime) -> Result<(), Fail> {
     let alloc = rt.alloc();
@@ -49,6 +51,7 @@ fn tells_elements_by_name(rt: HostRuntime) -> Result<(), Fail> {
 }
 
 // `/a[b=12]` on an element with the texts 1 and, in an element of its own, 2.
+#[tactic(auto, using(px_xpath::proofs::FilterViews::views, px_tree::proofs::TreeViews::views))]
 #[test]
 fn joins_the_texts_of_an_element(rt: HostRuntime) -> Result<(), Fail> {
     let alloc = rt.alloc();

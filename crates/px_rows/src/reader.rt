@@ -2,7 +2,7 @@
 
 ghost use Rattle.std.specs.Prelude.{◌<◌};
 
-use crate::{Doc, Event, EventList, Happening, Reader, ReaderFault};
+use px_reader::{Doc, Event, EventList, Happening, Reader, ReaderFault};
 use px_text::Bytes;
 use std::alloc::{AllocError, Global};
 use std::process::Abort;

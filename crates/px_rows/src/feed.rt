@@ -1,9 +1,6 @@
 //! A few feeds, read to their ends.
 
-use crate::ending::Taken;
-use crate::feed::Items;
-use crate::item::Item;
-use crate::line::{FeedFault, FeedKind};
+use px_feed::{FeedFault, FeedKind, Item, Items, Taken, generate};
 use px_io::{FailSource, MemSource};
 use px_reader::DocKind;
 use px_text::{Bytes, Words};
@@ -152,5 +149,15 @@ fn a_read_fault_is_ready_again(rt: HostRuntime) -> Result<(), Fail> {
     assert!(rt; items.ready().is_none());
     assert!(rt; is_read_fault(&Some(items.next(&mut source))));
     assert!(rt; is_read_fault(&items.ready()));
+    Ok(())
+}
+
+#[test]
+fn two_filters_and_a_document(rt: HostRuntime) -> Result<(), Fail> {
+    let feed = generate(rt.alloc(), 1, 2, 1)?;
+    assert_eq!(rt;
+        feed.as_slice(),
+        b"+//e6[not(e1)]\n+//e3[text()>7 or .//e2]\n(r\n(e3\nAk 2\n(e6\n-9\n)e6\n)e3\n(e7\nAk 4\n(e4\n-5\n)e4\n)e7\n(e7\nAk 9\n(e7\n-7\n)e7\n)e7\n(e6\nAk 6\n(e2\n-5\n)e2\n)e6\n)r\n".as_slice()
+    );
     Ok(())
 }

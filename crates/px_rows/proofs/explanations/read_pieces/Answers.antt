@@ -1,5 +1,5 @@
 use Rattle.std.proofs.Common.{◌++◌, arith}
-use Rattle.px_explain.proofs.tests.read_pieces.Goals as goal
+use Rattle.px_rows.proofs.explanations.read_pieces.Goals as goal
 
 pub finish-requires : goal.finish-requires
 finish-requires c =
