@@ -1,12 +1,5 @@
 pub mod Answering
-pub mod Changing
-pub mod FeedEnds
-pub mod FeedFronts
-pub mod FeedLines
-pub mod FeedTaking
-pub mod Fronts
 pub mod Lines
-pub mod Noting
 pub mod OneOutput
 pub mod WhatIsFound
 pub mod Reading
@@ -14,6 +7,5 @@ pub mod Runs
 pub mod RunFacts
 pub mod Saying
 pub mod Sizes
-pub mod Spoken
 pub mod Stopping
 pub mod Taking

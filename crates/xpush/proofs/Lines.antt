@@ -31,7 +31,7 @@ use Rattle.xpush.specs.Stops.{outcome_of, refusal_of}
 use Rattle.xpush.specs.Runs.{IsLineFor, IsLineUnder, WritesFront}
 use Rattle.xpush.specs.Documents.{GivesMatch, GivesFault}
 use Rattle.xpush.specs.Forms.{Makes, Matches, Shows}
-use Rattle.xpush.specs.Fronts.{AddsFront}
+use Rattle.px_lines.specs.Fronts.{AddsFront}
 
 -- the line of a document that was read to its end
 pub ids_line : (way : Way) (left after : Option (List ℕ)) (ids : List ℕ) (line : OutLine) → GivesMatch way left after ids →

@@ -7,7 +7,8 @@ use Rattle.px_feed.specs.Matches.{OutShow}
 use Rattle.px_feed.specs.Outputs.{Out}
 use Rattle.xpush.specs.Answers.{IsOutput, IsOfWhole, Moment, Ran, is_done}
 use Rattle.xpush.specs.Forms.{Form, Explains, Makes, Matches, Serves, Shows, Verifies}
-use Rattle.xpush.specs.Runs.{Answers, WritesFront, WritesWhole, is_finished, is_cut_short}
+use Rattle.xpush.specs.Runs.{Answers, WritesFront, WritesWhole}
+use Rattle.px_lines.specs.Served.{is_finished, is_cut_short}
 
 not_true : IsTrue false → ⊥
 not_true t = absurd (cc)

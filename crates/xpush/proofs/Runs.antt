@@ -1,5 +1,5 @@
 -- The record of a run, of what the functions below say.
-use Rattle.std.proofs.Common.{◌≡◌, ◌≤◌, ◌||◌, ℕ, false, List, [], Option, IsTrue, IsFalse, refl, sym, subst, inl, arith}
+use Rattle.std.proofs.Common.{◌≡◌, ◌≤◌, ◌||◌, ◌⊎◌, ◌++◌, ℕ, false, List, [], Option, IsTrue, IsFalse, refl, sym, subst, inl, inr, arith}
 use Rattle.px_io.specs.Faults.{Rose}
 use Rattle.px_io.specs.Flows.{AddsTo}
 use Rattle.px_io.proofs.Flowing.{adds_nothing}
@@ -7,11 +7,13 @@ use Rattle.px_feed.specs.declared.status.Status.{Status}
 use Rattle.px_feed.specs.declared.status.Status.TheVariants.{Done, Refused, Usage, ReadFault, WriteFault, Memory}
 use Rattle.px_feed.specs.Generator.{feed}
 use Rattle.px_feed.specs.Lines.{line_text}
-use Rattle.px_feed.specs.Outputs.{text_of}
+use Rattle.px_feed.specs.Outputs.{Out, text_of}
 use Rattle.px_document.specs.Findings as findings
-use Rattle.xpush.specs.Answers.{Moment, IsOutput, IsOfWhole, Ran, Wrote, is_done, reads}
+use Rattle.px_lines.specs.Served.{ServedFront}
+use Rattle.xpush.specs.Answers.{Moment, IsFrontOfOut, IsOutput, IsOfWhole, Ran, Wrote, is_done, reads}
 use Rattle.xpush.specs.Forms.{Form, Explains, Makes, Matches, Serves, Shows, Verifies}
-use Rattle.xpush.specs.Runs.{Answers, WritesFront, WritesWhole, is_finished, is_cut_short}
+use Rattle.xpush.specs.Runs.{Answers, WritesFront, WritesWhole}
+use Rattle.px_lines.specs.Served.{is_finished, is_cut_short}
 
 not_true : IsTrue false → ⊥
 not_true t = absurd (cc)
@@ -143,3 +145,12 @@ ran_out form now = record {
   read_counts = omega arith;
   write_counts = omega arith;
 }
+
+-- the front of the output of a feed
+pub feed_front : (left held held_after : Option (List ℕ)) → ServedFront left held held_after → WritesFront Serves left held held_after
+feed_front left held held_after f = record { bytes_written = f.bytes_written; written = f.written; is_front = λ bytes told. as_front bytes (f.is_front bytes told) }
+  where
+    as_front : (bytes : List ℕ) → (f.bytes_written ≡ []) ⊎ ((text rest : List ℕ) × (status : Status) × Out bytes text status × (text ≡ f.bytes_written ++ rest)) →
+        IsFrontOfOut Serves bytes f.bytes_written
+    as_front bytes (inl none) = inl none
+    as_front bytes (inr (text, rest, status, out, begins)) = inr (text, rest, status, ((text, status), out, refl, refl), begins)

@@ -1,22 +1,17 @@
 -- A machine that takes events, and what it says of them.
 use Rattle.std.proofs.Common.{◌≡◌, ℕ, List, [], ◌∷◌, ◌++◌, Result, Ok, Err, IfOk, sym, ap, ◌∙◌, subst}
 use Rattle.px_text.specs.Nodes.{Root}
-use Rattle.px_reader.specs.Documents.{content}
 use Rattle.px_reader.specs.Spelling.{events_of}
-use Rattle.px_reader.specs.declared.doc.Doc.{Doc}
 use Rattle.px_reader.specs.declared.event.Event.{Event}
 use Rattle.px_xpath.specs.declared.numbered.Numbered.{Numbered}
 use Rattle.px_xpath.specs.Subscribed.{subscriptions}
-use Rattle.px_xpath.specs.Histories.{Change, matches}
 use Rattle.px_afa.specs.Building.{Automata, automata}
 use Rattle.px_afa.specs.Sound.{AreProper}
 use Rattle.px_afa.proofs.Soundness.{have-steps}
 use Rattle.px_machine.specs.declared.machine.Machine.{Machine}
 use Rattle.px_machine.specs.Machines.{HasRun}
 use Rattle.px_runner.proofs.AcceptedIds.{accepted-matches}
-use Rattle.px_reader.specs.Verdicts.{AreEvents}
-use Rattle.xpush.specs.Verdicts.{IsOf, ids_accepted, ids_matching}
-use Rattle.px_reader.proofs.Telling.{tree_one}
+use Rattle.xpush.specs.Verdicts.{ids_accepted, ids_matching}
 
 are-proper : (live : List Numbered) → AreProper (subscriptions live)
 are-proper [] = tt
@@ -36,10 +31,3 @@ pub behind_ids : {E : Type 0} (before after : Machine) (events : List Event) (re
 behind_ids before after events (Ok ids) on h = λ program given root run e.
     h program root (let P : List Event → Type 0 = λ es. HasRun after program es in subst P (sym e) (on program given run))
 behind_ids before after events (Err found) on h = tt
-
--- the ids of a document that is one
-pub doc_ids : {E : Type 0} (doc : Doc) (events : List Event) (h : List Change) (result : Result (List ℕ) E) → AreEvents (content doc) events →
-    IfOk result (λ ids. (root : Root) → events_of root ≡ events → ids ≡ matches h root) → (root : Root) → IsOf doc root → IfOk result (λ ids. ids ≡ matches h root)
-doc_ids doc events h (Ok ids) are found root is =
-    let same : are.root ≡ root = tree_one (content doc) are.root root are.verdict is.verdict in found root (ap events_of (sym same) ∙ sym are.events_are)
-doc_ids doc events h (Err e) are found root is = tt

@@ -8,9 +8,10 @@ use Rattle.px_document.specs.Findings.{text, status}
 use Rattle.px_document.specs.Outputs as outputs
 use Rattle.px_document.specs.Outputs.{IsFound}
 use Rattle.px_document.specs.declared.finding.Finding.{Finding}
-use Rattle.xpush.specs.Runs.{Proved, WritesFront, is_finished}
+use Rattle.xpush.specs.Runs.{Proved, WritesFront}
+use Rattle.px_lines.specs.Served.{is_finished}
 use Rattle.xpush.specs.Forms.{Explains, Verifies}
-use Rattle.xpush.specs.Fronts.{AddsFront}
+use Rattle.px_lines.specs.Fronts.{AddsFront}
 
 -- what is found was written whole
 pub proved : (finds : (bytes : List ℕ) → Finding → Type 0) (left after held held_after : Option (List ℕ)) (finding : Finding) (ended : Status) → IsFound finds left after finding →

@@ -1,13 +1,8 @@
 pub mod Forms
-pub mod Fronts
 pub mod Answers
 pub mod Runs
 pub mod Documents
-pub mod Noting
 pub mod OptionRows
 pub mod Stops
 pub mod Showing
-pub mod Replying
-pub mod Standing
 pub mod Verdicts
-pub mod Waiting

@@ -1,14 +1,12 @@
 -- What the functions below the top call say of a run: each its part of the record of `Answers.antt`.
-use Rattle.std.specs.Prelude.{◌≡◌, ℕ, Bool, true, false, List, Option, Some, IsTrue}
-use Rattle.px_io.specs.Flows.{TakesFrom, AddsTo, IsSpent}
+use Rattle.std.specs.Prelude.{◌≡◌, ℕ, false, List, Option, Some, IsTrue}
+use Rattle.px_io.specs.Flows.{AddsTo, IsSpent}
 use Rattle.px_feed.specs.declared.line.OutLine.{OutLine}
 use Rattle.px_feed.specs.declared.status.Status.{Status}
-use Rattle.px_feed.specs.declared.status.Status.TheVariants.{Done, Refused, WriteFault, Memory}
+use Rattle.px_feed.specs.declared.status.Status.TheVariants.{Done}
 use Rattle.px_feed.specs.Generator.{feed}
-use Rattle.px_feed.specs.Items.{Item, AreWhole}
 use Rattle.px_feed.specs.Lines.{line_text}
 use Rattle.px_feed.specs.Matches.{AnswersDocument, AnswersMatch, OutShow, status_behind}
-use Rattle.px_feed.specs.Outputs.{AreLines, Out, text_of}
 use Rattle.px_xpath.specs.Filters.{Way}
 use Rattle.px_document.specs.declared.finding.Finding.{Finding}
 use Rattle.px_document.specs.CutShort.{CutAtDocument, CutAtProof}
@@ -16,6 +14,7 @@ use Rattle.px_document.specs.Findings as findings
 use Rattle.px_document.specs.Findings.{line_is_of_filter, line_needs_all}
 use Rattle.px_document.specs.Outputs as outputs
 use Rattle.px_document.specs.Outputs.{IsFound}
+use Rattle.px_lines.specs.Served.{Served, ServedWhole}
 use Rattle.xpush.specs.Answers.{IsFront}
 use Rattle.xpush.specs.Forms.{Form, Explains, Makes, Matches, Serves, Shows, Verifies}
 
@@ -58,13 +57,6 @@ pub record Made (seed filters documents : ℕ) (left after held held_after : Opt
   pub ended : status ≡ Done
   pub unread : after ≡ left
 
--- A run of `serial` that was not cut short wrote the output for the feed that was left in the source. Where all went well the feed was read to its end.
-pub record Served (left after held held_after : Option (List ℕ)) (status : Status) : Type 0 where
-  pub text : List ℕ
-  pub is_for : (bytes : List ℕ) → left ≡ Some bytes → Out bytes text status
-  pub written : AddsTo held text held_after
-  pub read_whole : status ≡ Done → IsSpent after
-
 -- what a run that was not cut short answers
 abbrev pub Answers : Form → (left after held held_after : Option (List ℕ)) → Status → Type 0
 Answers (Matches filter) = Matched filter
@@ -80,16 +72,6 @@ pub record WritesFront (form : Form) (left held held_after : Option (List ℕ)) 
   pub written : AddsTo held bytes_written held_after
   pub is_front : IsFront form left bytes_written
 
--- A run of `serial` whose source met a fault wrote the lines of the items that are whole in the bytes read.
-pub record ServedWhole (left after held held_after : Option (List ℕ)) : Type 0 where
-  pub bytes : List ℕ
-  pub read : TakesFrom left bytes after
-  pub items : List Item
-  pub are_whole : AreWhole bytes items
-  pub lines : List OutLine
-  pub are_lines : AreLines items lines
-  pub written : AddsTo held (text_of lines) held_after
-
 -- What a run whose source met a fault wrote: nothing, but of a feed the lines of its whole items. Nothing that was read whole is at fault. Without a source there is no such run.
 abbrev pub WritesWhole : Form → (left after held held_after : Option (List ℕ)) → Type 0
 WritesWhole (Matches filter) left after held held_after = CutAtDocument filter left after × (held_after ≡ held)
@@ -98,15 +80,3 @@ WritesWhole (Explains filter) left after held held_after = CutAtDocument filter 
 WritesWhole (Verifies filter) left after held held_after = CutAtProof filter left after × (held_after ≡ held)
 WritesWhole (Makes seed filters documents) left after held held_after = ⊥
 WritesWhole Serves left after held held_after = ServedWhole left after held held_after
-
--- the run was not cut short
-abbrev pub is_finished : Status → Bool
-is_finished Done = true
-is_finished Refused = true
-is_finished _ = false
-
--- the run was cut short by its sink or for want of memory
-abbrev pub is_cut_short : Status → Bool
-is_cut_short WriteFault = true
-is_cut_short Memory = true
-is_cut_short _ = false

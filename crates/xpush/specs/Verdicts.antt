@@ -1,19 +1,12 @@
 -- What a document of a feed is matched with.
-use Rattle.std.specs.Prelude.{◌≡◌, ℕ, List, map, filter}
+use Rattle.std.specs.Prelude.{ℕ, List, map, filter}
 use Rattle.px_text.specs.Nodes.{Root}
-use Rattle.px_reader.specs.Documents.{content}
-use Rattle.px_reader.specs.Verdicts.{HasVerdict, IsTree}
-use Rattle.px_reader.specs.declared.doc.Doc.{Doc}
 use Rattle.px_afa.specs.Accepting.{accepted}
 use Rattle.px_afa.specs.Building.{Automata}
 use Rattle.px_afa.specs.Contents.{root_content}
 use Rattle.px_afa.specs.Machine.{machine_of}
 use Rattle.px_xpath.specs.Histories.{Subscription}
 use Rattle.px_xpath.specs.Meaning.{holds}
-
--- the document's bytes spell the tree
-pub record IsOf (doc : Doc) (root : Root) : Type 0 where
-  pub verdict : HasVerdict (content doc) (IsTree root)
 
 -- the ids of the filters that hold of the tree
 abbrev pub ids_matching : List Subscription → Root → List ℕ

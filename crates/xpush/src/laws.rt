@@ -6,7 +6,8 @@ ghost use Rattle.px_feed.specs.declared.status.Status.{Status};
 ghost use Rattle.px_feed.specs.declared.status.Status.TheVariants as statuses;
 ghost use Rattle.xpush.specs.Answers.{Moment, OutOf, Ran};
 ghost use Rattle.xpush.specs.Forms.{Form};
-ghost use Rattle.xpush.specs.Runs.{Answers, WritesFront, WritesWhole, is_cut_short, is_finished};
+ghost use Rattle.xpush.specs.Runs.{Answers, WritesFront, WritesWhole};
+ghost use Rattle.px_lines.specs.Served.{is_cut_short, is_finished};
 
 /// What the record of a run says, fact by fact: the answer of a run that was not cut short, the
 /// front that was written by one that was, what was written where the source met a fault, and that

@@ -5,19 +5,14 @@
 //! number of their status.
 #![tactic(auto)]
 
-mod changes;
 mod document;
-mod filtering;
 pub mod laws;
 mod making;
 mod matching;
-mod outgoing;
-mod output;
 pub mod plain;
 mod proving;
 pub mod run;
 mod running;
-mod serving;
 mod showing;
 mod stop;
 #[cfg(test)]

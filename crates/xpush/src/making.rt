@@ -2,12 +2,13 @@
 
 ghost use Rattle.std.specs.Prelude.{◌≡◌, ◌≤◌, ◌||◌, List, ℕ, Option, IsTrue};
 ghost use Rattle.px_io.specs.Faults.{Rose};
-ghost use Rattle.xpush.specs.Runs.{Made, WritesFront, is_finished, is_cut_short};
+ghost use Rattle.xpush.specs.Runs.{Made, WritesFront};
+ghost use Rattle.px_lines.specs.Served.{is_finished, is_cut_short};
 ghost use Rattle.xpush.specs.Forms.{Makes};
 
-use crate::output::write_answer;
 use px_feed::{Status, generate};
 use px_io::Sink;
+use px_lines::write_answer;
 use std::alloc::Global;
 
 /// Writes the feed of the seed, with so many filters and documents.

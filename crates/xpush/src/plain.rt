@@ -8,12 +8,12 @@ ghost use Rattle.xpush.specs.Forms.{form, form_of, have_options};
 use crate::making::make_feed;
 use crate::matching::match_document;
 use crate::proving::{explain_document, verify_proof};
-use crate::serving::serve_feed;
 use crate::showing::show_filter;
 use crate::words::{Command, command_of};
 use px_feed::Status;
 use px_io::{Sink, Source};
 use px_options::OptionsError;
+use px_serial::serve_feed;
 use std::alloc::Global;
 
 /// Runs the command that the words are, from the source to the sink, and answers its status.

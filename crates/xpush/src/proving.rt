@@ -6,14 +6,15 @@ ghost use Rattle.px_io.specs.Flows.{AddsTo};
 ghost use Rattle.px_document.specs.CutShort.{CutAtDocument, CutAtProof};
 ghost use Rattle.px_document.specs.Findings as findings;
 ghost use Rattle.px_document.specs.Outputs as outputs;
-ghost use Rattle.xpush.specs.Runs.{Proved, WritesFront, is_finished, is_cut_short};
+ghost use Rattle.xpush.specs.Runs.{Proved, WritesFront};
+ghost use Rattle.px_lines.specs.Served.{is_finished, is_cut_short};
 ghost use Rattle.xpush.specs.Forms.{Explains, Verifies};
-ghost use Rattle.xpush.specs.Fronts.{AddsFront};
+ghost use Rattle.px_lines.specs.Fronts.{AddsFront};
 
-use crate::output::write_answer;
 use px_document::{Cut, Finding, explanation, text_of, verification};
 use px_feed::Status;
 use px_io::{Sink, Source};
+use px_lines::write_answer;
 use std::alloc::Global;
 
 /// Writes what the document that is left in the source is explained by under the filter.

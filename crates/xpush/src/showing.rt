@@ -3,14 +3,15 @@
 ghost use Rattle.std.specs.Prelude.{◌≡◌, ◌≤◌, ◌++◌, ◌∷◌, ◌||◌, [], List, ℕ, Option, IfOk, IsTrue};
 ghost use Rattle.px_feed.specs.Matches.{OutShow};
 ghost use Rattle.px_io.specs.Faults.{Rose};
-ghost use Rattle.xpush.specs.Runs.{Shown, WritesFront, is_finished, is_cut_short};
+ghost use Rattle.xpush.specs.Runs.{Shown, WritesFront};
+ghost use Rattle.px_lines.specs.Served.{is_finished, is_cut_short};
 ghost use Rattle.px_xpath.specs.Whole.{filter as way_of};
 ghost use Rattle.xpush.specs.Forms.{Shows};
 ghost use Rattle.xpush.specs.Showing.{ShowsPrinted, ShowsRefusal};
 
-use crate::output::write_answer;
 use px_feed::{OutLine, Status, line_of};
 use px_io::Sink;
+use px_lines::write_answer;
 use px_text::Bytes;
 use px_xpath::{Filter, ParseFault, parse, print};
 use std::alloc::{AllocError, Global};

@@ -1,7 +1,7 @@
 -- A feed, whole or cut short.
 use Rattle.xpush.proofs.Lines.{cut_feed}
 use Rattle.std.proofs.Common.{◌∙◌, List, ℕ, subst}
-use Rattle.xpush.specs.Fronts.{AddsFront}
+use Rattle.px_lines.specs.Fronts.{AddsFront}
 use Rattle.xpush.proofs.making.make_feed.Goals as goal
 
 pub returns-in-Ok-clause-front : goal.returns-in-Ok-clause-front

@@ -1,7 +1,7 @@
 -- A line that was cut short.
 use Rattle.std.proofs.Common.{List, ℕ, subst, ◌∙◌}
 use Rattle.xpush.proofs.Lines.{cut_line}
-use Rattle.xpush.specs.Fronts.{AddsFront}
+use Rattle.px_lines.specs.Fronts.{AddsFront}
 use Rattle.xpush.proofs.matching.match_document.Goals as goal
 
 pub returns-in-Ok-line_of-clause-front : goal.returns-in-Ok-line_of-clause-front

@@ -1,7 +1,7 @@
 -- The text of a finding is written, and the run ends with its status.
 use Rattle.std.proofs.Common.{List, ℕ, subst, ◌∙◌}
 use Rattle.px_io.specs.Flows.{AddsTo}
-use Rattle.xpush.specs.Fronts.{AddsFront}
+use Rattle.px_lines.specs.Fronts.{AddsFront}
 use Rattle.xpush.proofs.WhatIsFound.{finishes}
 use Rattle.xpush.proofs.proving.write_finding.Goals as goal
 
