@@ -86,8 +86,6 @@ mod engine;
 mod entrance;
 mod exchange;
 mod faults;
-#[cfg(test)]
-mod filter_tests;
 mod filtering;
 mod home;
 mod hub;
@@ -102,8 +100,6 @@ mod parts;
 mod pass;
 mod reply;
 mod server;
-#[cfg(test)]
-mod tests;
 mod together;
 
 pub use call::Call;

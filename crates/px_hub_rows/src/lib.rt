@@ -5,4 +5,10 @@
 #![tactic(auto)]
 
 #[cfg(test)]
+mod batches;
+#[cfg(test)]
 mod calls;
+#[cfg(test)]
+mod hubs;
+#[cfg(test)]
+mod settling;

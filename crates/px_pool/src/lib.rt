@@ -30,8 +30,6 @@ mod batches;
 mod gather;
 mod laws;
 mod notice;
-#[cfg(test)]
-mod tests;
 mod worker;
 
 pub use batches::batch;

@@ -1,4 +1,4 @@
-use Rattle.px_hub.proofs.tests.replaced.Given as goal
+use Rattle.px_hub_rows.proofs.hubs.replaced.Given as goal
 
 abbrev pub ghosts-replaced_as : goal.ghosts-replaced_as
 ghosts-replaced_as g a = record { table = a.parts.shared; passes = a.parts.passes }

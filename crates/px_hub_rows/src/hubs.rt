@@ -2,13 +2,9 @@
 ghost use Rattle.std.specs.Prelude.{◌≡◌};
 ghost use Rattle.px_hub.specs.AllOfThem.{HoldsEvery, AreClosed};
 
-use crate::config::Config;
-use crate::crossing::threads_may_share_a_hub;
-use crate::faults::{ReplaceFault, UnsubscribeFault};
-use crate::hub::Hub;
-use crate::name::HubName;
-use crate::parts::Parts;
-use crate::pass::Pass;
+use px_hub::{
+    Config, Hub, HubName, Parts, Pass, ReplaceFault, UnsubscribeFault, threads_may_share_a_hub,
+};
 use px_xpath::FilterFault;
 use std::alloc::Global;
 use std::marker::Brand;

@@ -1,12 +1,7 @@
 //! Documents that are filtered by passes of small hubs, with the exact counts.
 ghost use Rattle.std.specs.Prelude.{◌≡◌};
 
-use crate::config::Config;
-use crate::hub::Hub;
-use crate::name::HubName;
-use crate::parts::Parts;
-use crate::pass::Pass;
-use crate::reply::{Reply, Why};
+use px_hub::{Config, Hub, HubName, Parts, Pass, Reply, Why};
 use px_text::Ids;
 use std::alloc::{AllocError, Global};
 use std::marker::Brand;

@@ -2,9 +2,9 @@
 ghost use Rattle.std.specs.Prelude.{◌≡◌, ◌≤◌, true};
 ghost use Rattle.px_hub.specs.AllOfThem.{AreClosed};
 
-use crate::batches::batch;
 use px_hub::{Config, Hub, HubName, Parts, Pass, Reply};
 use px_io::Gate;
+use px_pool::batch;
 use px_reader::Doc;
 use px_text::Bytes;
 use std::alloc::Global;
