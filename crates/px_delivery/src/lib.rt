@@ -1,28 +1,29 @@
-//! Letters on their way from feeders to mailboxes, each once and in order.
-//!
-//! A mailbox is a line of letters with one taker. Each feeder has an exit that leads to it, and
-//! numbers its letters there from 1.
+//! Documents filtered by a hub, and letters of what they match to mailboxes.
 //!
 //! ```text
-//!   Mailbox::create(number, capacity)      Mailbox::exit(0), exit(1), ..: one for each feeder
-//!     the thread of feeder f                 the thread of the mailbox
-//!     Exit::put letter 1, 2, 3, ..           Mailbox::take: of each feeder 1, 2, 3, ..
-//!     Exit::end -> its slip          ---->   Mailbox::take_in: all letters of f are known now
+//!   Post::create          feeders, each with a way to every mailbox
+//!     Feeder::route         letters of this id go to that mailbox from now on
+//!     Feeder::deliver       one filter call of the hub, and a letter for each id with a route
+//!     Feeder::resume        puts what is left
+//!     Feeder::end           a slip for each mailbox
+//!   Mailbox::take, take_in    at the other end (px_post)
 //! ```
 //!
-//! - What a mailbox gave of one feeder has `seq` 1, 2, 3 and on, without gap or repeat. Once it has
-//!   taken in the slip of that feeder, it is a front of what the feeder put there; and where
-//!   [`Mailbox::take`] then finds nothing, it is all of it.
-//! - A letter comes back to the feeder only where the mailbox was full at some moment of the call.
-//! - Nothing is said of the order between feeders, nor that a letter comes soon.
+//! The reply of [`Feeder::deliver`], its refusals and the pass behind it are those of
+//! `Hub::filter`. A document counts where the call answers `Ok`, also where letters are left. What
+//! was put and what is left are then the letters of one document more (`Posts` of px_post): its
+//! ids are those of the reply, and its routes those at the call.
+//!
+//! `Sent::Part` and `Resumed::Full` name a mailbox that was full at one moment of the call: so
+//! many letters waited there, and those of the feeder among them were the last that it had put. No
+//! clause can name a moment of another thread, so nothing more is said of it.
 #![tactic(auto)]
 
-mod laws;
-mod letter;
-mod mailbox;
-#[cfg(test)]
-mod tests;
+mod feeder;
+mod post;
+mod sent;
 
-pub use laws::{a_document_adds_its_letters, letters_are_numbered};
-pub use letter::Letter;
-pub use mailbox::{Exit, Mailbox, Slip};
+pub use feeder::Feeder;
+pub use post::Post;
+pub use px_post::{Letter, Mailbox, Resumed, Slip};
+pub use sent::Sent;

@@ -1,5 +1,0 @@
-use Rattle.px_delivery.proofs.Folding.{numbered}
-use Rattle.px_delivery.proofs.laws.letters_are_numbered.Goals as goal
-
-pub returns : goal.returns
-returns c f b ds = numbered f b ds

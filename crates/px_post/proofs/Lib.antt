@@ -1,0 +1,4 @@
+pub mod Folding
+pub mod Moving
+pub mod Numbered
+pub mod Posting

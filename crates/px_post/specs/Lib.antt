@@ -1,0 +1,4 @@
+pub mod Letters
+pub mod Mail
+pub mod Rows
+pub mod Sending
