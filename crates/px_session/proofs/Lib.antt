@@ -1,0 +1,4 @@
+pub mod Behind
+pub mod Read
+pub mod Staged
+pub mod Joining
