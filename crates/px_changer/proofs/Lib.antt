@@ -1,0 +1,5 @@
+pub mod Anonymous
+pub mod Meetings
+pub mod Owning
+pub mod PutIn
+pub mod Replied
