@@ -7,7 +7,11 @@
 #[cfg(test)]
 mod batches;
 #[cfg(test)]
+mod callers;
+#[cfg(test)]
 mod calls;
+#[cfg(test)]
+mod filters;
 #[cfg(test)]
 mod hubs;
 #[cfg(test)]
