@@ -1,1 +1,10 @@
+mod Finding
+mod Fronts
+mod Holding
+mod Joined
+mod Leaving
+mod OtherKinds
+mod Renewed
+mod Stepping
+mod Telling
 mod TwoLists

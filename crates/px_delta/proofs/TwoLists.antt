@@ -3,10 +3,11 @@ use Rattle.std.proofs.Common.{◌≡◌, ◌≢◌, ◌<◌, ◌≤◌, ℕ, ari
 use Rattle.std.proofs.lemmas.Bool.Decides.{eqb_tells}
 use Rattle.std.proofs.lemmas.Bool.{ne_eqb, ltb-true, ltb-false}
 use Rattle.std.specs.Prelude.{◌||◌, map, filter}
+use Rattle.std.specs.List as lists
 use Rattle.std.specs.List.{list_any}
 use Rattle.px_text.specs.Sets.{Above, Rising}
 use Rattle.px_xpath.specs.Filters.{Way}
-use Rattle.px_xpath.specs.Histories.{Subscription}
+use Rattle.px_xpath.specs.Histories.{Subscription, is_of}
 use Rattle.px_delta.specs.Lists.{TellsSame, is_pair, without, matching, has_id, without_ids, insert_id, merge}
 
 -- the number is below each id, and the ids rise
@@ -64,7 +65,7 @@ abbrev pub has : List ℕ → ℕ → Bool
 has [] q = false
 has (x ∷ xs) q = nat_eq x q || has xs q
 
-over_less : (m n : ℕ) (xs : List ℕ) → m < n → IsOver n xs → IsOver m xs
+pub over_less : (m n : ℕ) (xs : List ℕ) → m < n → IsOver n xs → IsOver m xs
 over_less m n [] h o = tt
 over_less m n (x ∷ xs) h o = let k = o.0 in (omega arith, over_less m n xs h o.1)
 
@@ -187,11 +188,11 @@ rising_insert : (n : ℕ) (ms : List ℕ) → AreRising ms → AreRising (insert
 rising_insert n [] r = (tt, tt)
 rising_insert n (m ∷ ms) r = insert_rising n m ms r (eqb_tells n m) (ltb_tells n m) (rising_insert n ms r.1)
 
-has_merge : (q : ℕ) (ms ns : List ℕ) → has (merge ms ns) q ≡ (has ms q || has ns q)
+pub has_merge : (q : ℕ) (ms ns : List ℕ) → has (merge ms ns) q ≡ (has ms q || has ns q)
 has_merge q [] ns = refl
 has_merge q (m ∷ ms) ns = has_insert m q (merge ms ns) ∙ ap (λ (b : Bool). nat_eq m q || b) (has_merge q ms ns) ∙ sym (or_assoc (nat_eq m q) (has ms q) (has ns q))
 
-rising_merge : (ms ns : List ℕ) → AreRising ns → AreRising (merge ms ns)
+pub rising_merge : (ms ns : List ℕ) → AreRising ns → AreRising (merge ms ns)
 rising_merge [] ns r = r
 rising_merge (m ∷ ms) ns r = rising_insert m (merge ms ns) (rising_merge ms ns r)
 
@@ -288,7 +289,7 @@ kept q (n ∷ ns) xs = by_tests (has_id xs n) refl (eqb_tells n q) (kept q ns xs
     by_tests false e (inr t) h = rw t.0 h
 
 -- which pair a pair of an id is among others
-same_as : (Way → Way → Bool) → Subscription → Option Subscription → Bool
+abbrev pub same_as : (Way → Way → Bool) → Subscription → Option Subscription → Bool
 same_as same x None = false
 same_as same x (Some y) = same x.filter y.filter
 
@@ -300,7 +301,7 @@ no_pair_below same x (y ∷ ys) n h e = rw (ne_eqb x.id y.id (apart x.id y.id n 
     apart a b n k e f = omega arith
 
 pair_found : (same : Way → Way → Bool) (x : Subscription) (ys : List Subscription) → IsRising ys → list_any (is_pair same x) ys ≡ same_as same x (find ys x.id)
-unfolding find same_as
+unfolding find
 pair_found same x [] r = refl
 pair_found same x (y ∷ ys) r = by_test (eqb_tells y.id x.id) (pair_found same x ys r.1)
   where
@@ -312,6 +313,16 @@ pair_found same x (y ∷ ys) r = by_test (eqb_tells y.id x.id) (pair_found same 
         or_false true = refl
         or_false false = refl
     by_test (inr t) h = rw (t.0, ne_eqb x.id y.id (λ e. t.1 (sym e))) h
+
+found_first : (xs : List Subscription) (q : ℕ) → find xs q ≡ lists.find (is_of q) xs
+unfolding find
+found_first [] q = refl
+found_first (x ∷ xs) q = ap (λ (o : Option Subscription). cond (nat_eq x.id q) (Some x) o) (found_first xs q)
+
+-- a list has a pair where its filter of that id is the same
+pub pair_told : (same : Way → Way → Bool) (xs : List Subscription) (x : Subscription) (b : Option Subscription) → Rising (map (λ s. s.id) xs) → b ≡ lists.find (is_of x.id) xs →
+    same_as same x b ≡ list_any (is_pair same x) xs
+pair_told same xs x b rising e = ap (same_as same x) (e ∙ sym (found_first xs x.id)) ∙ sym (pair_found same x xs (is_rising xs rising))
 
 found_id : (xs : List Subscription) (q : ℕ) (x : Subscription) → find xs q ≡ Some x → x.id ≡ q
 unfolding find
@@ -328,7 +339,7 @@ in_base same x ys q b r e f = pair_found same x ys r ∙ ap (λ (n : ℕ). same_
 members : (same : Way → Way → Bool) → TellsSame same → (m : Way → Bool) (base front : List Subscription) (q : ℕ) → IsRising base → IsRising front → (a b : Option Subscription) → find base q ≡ a → find front q ≡ b →
     ((test (λ x. m x.filter) a && not (test (λ x. not (list_any (is_pair same x) front)) a)) || test (λ x. not (list_any (is_pair same x) base) && m x.filter) b)
     ≡ test (λ x. m x.filter) b
-unfolding test same_as
+unfolding test
 members same tells m base front q r s None None ea eb = refl
 members same tells m base front q r s (Some x) None ea eb =
     rw (in_base same x front q None s (found_id base q x ea) eb) (gone (m x.filter))

@@ -1,10 +1,20 @@
-//! The law of two live lists, over the lists alone.
+//! Laws of filters and of two live lists.
 
 ghost use Rattle.std.specs.Prelude.{◌≡◌, Bool, List, map};
 ghost use Rattle.px_text.specs.Sets.{Rising};
 ghost use Rattle.px_xpath.specs.Filters.{Way};
 ghost use Rattle.px_xpath.specs.Histories.{Subscription};
 ghost use Rattle.px_delta.specs.Lists.{TellsSame, without, matching, without_ids, merge};
+ghost use Rattle.px_delta.specs.Sameness.{same_way};
+
+use px_xpath::equal_is_same;
+
+/// The test by which filters are compared holds of two filters exactly where they are the same.
+pub fn same_filters_are_told()
+    ensures { TellsSame same_way }
+{
+    equal_is_same();
+}
 
 /// What matches in the second list are the ids that match in the first, without those of its pairs
 /// that the second lacks, and the ids that match among the pairs that only the second has. It asks

@@ -1,12 +1,44 @@
-//! Two lists of live filters, an older and a newer one: what the older one's matches and the
-//! changed filters say of the newer one's.
+//! Filters at two versions: a pass of an older version serves the filters that have not changed,
+//! and only those that have run beside it.
 //!
-//! A filter that both lists have under one id has not changed. What matches in the newer list are
-//! the ids that match in the older one, without those of its pairs that are gone, and the ids of
-//! the added pairs that match ([`two_live_lists_make_one`]). Pairs of id and filter are compared:
-//! an id that has got another filter is dropped and added.
+//! A change makes a new version, whose machine starts empty. A [`Delta`] holds two passes of one
+//! hub: the **base**, whose bank is full of what earlier documents brought, and the **front**,
+//! through which changes go.
+//!
+//! ```text
+//!   live for the base     live for the front
+//!   (1, /a)               -            dropped: its id is left out
+//!   (2, /b)               (2, /b)      unchanged: the answer of the base stands
+//!   (3, /c)               (3, /d)      dropped and added: the answer of the base is for /c
+//!   -                     (4, /e)      added: a machine of its own runs beside the base
+//! ```
+//!
+//! **Pairs, and never ids.** A replacement leaves an id live with another filter, so what is
+//! compared is the pair of id and filter ([`same_filters_are_told`]). Two live lists are compared
+//! anew in each call: the front is lent out, and the caller may put another pass in its place.
+//!
+//! **A document** ([`Delta::filter`]) is read once. It is first filtered by the base, as
+//! [`px_hub::Hub::filter`] does it, whose reply is handed out as it came. Where filters were added,
+//! the events go through a machine of these alone. That the ids of the base without the dropped
+//! ones, with the added ones that match, are those of the front is a law over the lists alone
+//! ([`two_live_lists_make_one`]): it asks nothing of how one list came from the other.
+//!
+//! **A rebase** ([`Delta::rebase`]) brings both passes to one version. It is for the caller to say
+//! when: [`Delta::distance`] tells how far they are apart.
 #![tactic(auto)]
 
+mod changed;
+mod changes;
+mod delta;
+mod filtering;
 mod laws;
+mod merging;
+mod pairs;
+mod private;
+mod rebasing;
+mod reply;
+mod same;
 
-pub use laws::two_live_lists_make_one;
+pub use delta::Delta;
+pub use laws::{same_filters_are_told, two_live_lists_make_one};
+pub use reply::DeltaReply;
