@@ -22,7 +22,7 @@ const MOST_BYTES: u64 = 67_108_864;
 /// A feed, the documents that were taken from it and wait for their answers, and the lines on their
 /// way to the sink.
 #[derive(Drop)]
-pub(crate) struct Gathering {
+pub struct Gathering {
     alloc: Global,
     items: Items,
     documents: Vec<Doc>,
@@ -32,7 +32,7 @@ pub(crate) struct Gathering {
 
 impl Gathering {
     /// Before the first item. Its only failure is want of memory.
-    pub(crate) fn new(alloc: Global) -> Result<Gathering, AllocError>
+    pub fn new(alloc: Global) -> Result<Gathering, AllocError>
         ensures { IfOk result Begun }
     {
         Ok(Gathering {
@@ -47,7 +47,7 @@ impl Gathering {
     /// Takes the next item, or how the feed has ended. The source is read only where what was read
     /// of it holds none, and what was said is written before. An error is the status with which
     /// the run has ended.
-    pub(crate) fn take<S: Source, K: Sink>(
+    pub fn take<S: Source, K: Sink>(
         &mut self,
         source: &mut S,
         sink: &mut K,
@@ -83,7 +83,7 @@ impl Gathering {
     }
 
     /// Keeps the document that was taken last: it waits. Its only failure is want of memory.
-    pub(crate) fn keep(&mut self, document: Doc) -> Result<(), AllocError>
+    pub fn keep(&mut self, document: Doc) -> Result<(), AllocError>
         ensures { OnOk result (Keeps document self.old self.new) }
     {
         let size = document.bytes().len() as u64;
@@ -93,14 +93,14 @@ impl Gathering {
     }
 
     /// Whether so many documents wait, or such long ones, that they are to be answered.
-    pub(crate) fn is_full(&self) -> bool
+    pub fn is_full(&self) -> bool
         ensures many { 256 ≤ length (documents_of self.now) → result ≡ true }
     {
         self.documents.len() >= MOST_DOCUMENTS || self.size > MOST_BYTES
     }
 
     /// The documents that wait, in the order of the feed.
-    pub(crate) fn documents(&self) -> &[Doc]
+    pub fn documents(&self) -> &[Doc]
         ensures { result.now ≡ documents_of self.now }
     {
         self.documents.as_slice()
@@ -108,11 +108,7 @@ impl Gathering {
 
     /// Says the lines of all documents that wait. None waits any more. An error is the status with
     /// which the run has ended.
-    pub(crate) fn answer_all<K: Sink>(
-        &mut self,
-        lines: &[OutLine],
-        sink: &mut K,
-    ) -> Result<(), Status>
+    pub fn answer_all<K: Sink>(&mut self, lines: &[OutLine], sink: &mut K) -> Result<(), Status>
         ensures answers { AnswersAll lines.now result self.old self.new (K.held sink.old)
             (K.held sink.new) }
         ensures none { OnOk result (documents_of self.new ≡ []) }
@@ -132,7 +128,7 @@ impl Gathering {
 
     /// Says the line of the item that was taken last, where no document waits. An error is the
     /// status with which the run has ended.
-    pub(crate) fn answer<K: Sink>(&mut self, line: &OutLine, sink: &mut K) -> Result<(), Status>
+    pub fn answer<K: Sink>(&mut self, line: &OutLine, sink: &mut K) -> Result<(), Status>
         ensures answers { Answers line.now result self.old self.new (K.held sink.old)
             (K.held sink.new) }
         ensures same { documents_of self.new ≡ documents_of self.old }
@@ -144,7 +140,7 @@ impl Gathering {
     }
 
     /// Ends the run as the feed has ended, where no document waits.
-    pub(crate) fn end<K: Sink>(&mut self, found: Taken, sink: &mut K) -> Status
+    pub fn end<K: Sink>(&mut self, found: Taken, sink: &mut K) -> Status
         requires no_item { (item : Given) → found ≡ taken.Item item → ⊥ }
         ensures ends { Ends found result self.old (K.held sink.old) (K.held sink.new) }
         ensures write_fault { result ≡ Status.WriteFault →

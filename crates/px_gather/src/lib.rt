@@ -1,25 +1,26 @@
 //! A run that answers a feed, with documents that wait until they are answered together.
 //!
-//! [`answer_feed`] takes the items of a feed one after the other, and has an [`Answerer`] answer
-//! them, with states that are lent for it. A change is answered at once; the documents between two
-//! changes wait, and are answered together, in the order of the feed.
+//! A [`Gathering`] takes the items of a feed one after the other and keeps the documents among
+//! them. Whoever runs it answers all that wait, in the order of the feed, before the next change
+//! is answered and before the run ends:
 //!
 //! ```text
-//!   a document    it waits, until 256 do or 67,108,864 bytes, or
-//!   a change      all that wait are answered, then the change
-//!   the end       all that wait are answered, and the run ends
+//!   take        the next item, or how the feed has ended
+//!   keep        a document, which waits from then on: until 256 do, or 67,108,864 bytes
+//!   answer_all  the lines of all documents that wait
+//!   answer      the line of a change, where no document waits
+//!   end         the run ends as the feed did, where no document waits
 //! ```
 //!
-//! How documents are filtered, and what a change does, is the answerer's matter: the passes of a
-//! hub side by side, or one after the other. It owes the lines of the definition for what the items
-//! ask (`AreAnswers` of `specs/Asking.antt`), and says what was asked of it so far. The bytes
-//! written are then the output of the feed, and what was asked is what its items ask.
+//! How documents are filtered, and what a change does, is no matter of this crate. It says which
+//! lines are asked of its caller: those of the definition for what the items ask, behind what was
+//! asked before (`AreAnswers` of `specs/Asking.antt`). Where the caller gives them, the bytes
+//! written are the output of the feed, and what was asked is what its items ask (`Ends` of
+//! `specs/Waiting.antt`). `specs/Running.antt` has the words for a loop over it, together with the
+//! states that answer, and `proofs/Turning.antt` the steps of its proof.
 #![tactic(auto)]
 
-mod answerer;
 mod gathering;
-mod running;
 mod saying;
 
-pub use answerer::Answerer;
-pub use running::answer_feed;
+pub use gathering::Gathering;
