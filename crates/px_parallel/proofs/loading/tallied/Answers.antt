@@ -1,0 +1,7 @@
+-- Nothing was asked yet, and nothing heard.
+use Rattle.px_parallel.proofs.Answered.{nothing_asked}
+use Rattle.px_parallel.proofs.loading.tallied.Goals as goal
+
+pub answer_feed-requires-clause-new : goal.answer_feed-requires-clause-new
+answer_feed-requires-clause-new g c κs within =
+    (nothing_asked g.N.HubName.passes c.args.passes.now c.requires.every c.requires.several c.requires.unused, c.new-sums.ensures)

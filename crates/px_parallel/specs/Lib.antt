@@ -1,0 +1,5 @@
+pub mod Answering
+pub mod Leading
+pub mod Replying
+pub mod Hearing
+pub mod Sums
