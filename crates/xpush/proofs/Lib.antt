@@ -9,3 +9,5 @@ pub mod Saying
 pub mod Sizes
 pub mod Stopping
 pub mod Taking
+pub mod InRange
+pub mod Lawful

@@ -6,7 +6,7 @@ use Rattle.px_feed.specs.declared.status.Status.TheVariants.{Done, Refused, Usag
 use Rattle.px_feed.specs.Matches.{OutShow}
 use Rattle.px_feed.specs.Outputs.{Out}
 use Rattle.xpush.specs.Answers.{IsOutput, IsOfWhole, Moment, Ran, is_done}
-use Rattle.xpush.specs.Forms.{Form, Explains, Makes, Matches, Serves, Shows, Verifies}
+use Rattle.xpush.specs.Forms.{Form, Explains, Loads, Makes, Matches, Serves, Shows, Verifies}
 use Rattle.xpush.specs.Runs.{Answers, WritesFront, WritesWhole}
 use Rattle.px_lines.specs.Served.{is_finished, is_cut_short}
 
@@ -50,7 +50,7 @@ answered (Makes seed filters documents) left after held held_after written statu
       ended = o.ended ∙ made.1;
       unread = o.unread refl;
     }
-answered Serves left after held held_after written status added o = record {
+answered (Serves hub) left after held held_after written status added o = record {
   text = o.answer.0;
   is_for = λ bytes told. (let P : Status → Type 0 = λ one. Out bytes o.answer.0 one in subst P (sym o.ended) (o.answers bytes told));
   written = added_as held held_after written _ added o.written_is;
@@ -59,6 +59,17 @@ answered Serves left after held held_after written status added o = record {
   where
     all_read : (one : Status) → one ≡ Done → IsTrue (is_done one)
     all_read one e = let P : Status → Type 0 = λ status. IsTrue (is_done status) in subst P (sym e) refl
+answered (Loads seed filters documents hub) left after held held_after written status added o =
+    let made = o.answers [] tt in
+    record {
+      loaded = record {
+        text = o.answer.0;
+        is_for = made.0;
+        written = added_as held held_after written _ added o.written_is;
+        ended = o.ended ∙ made.1;
+      };
+      unread = o.unread refl;
+    }
 
 -- nothing more is held where nothing was added
 same_held : (held held_after : Option (List ℕ)) (written : List ℕ) → AddsTo held written held_after → written ≡ [] → held_after ≡ held
@@ -73,7 +84,7 @@ whole_written (Shows filter) left after held held_after written added w = w
 whole_written (Explains filter) left after held held_after written added w = (w.0, same_held held held_after written added w.1)
 whole_written (Verifies filter) left after held held_after written added w = (w.0, same_held held held_after written added w.1)
 whole_written (Makes seed filters documents) left after held held_after written added w = w
-whole_written Serves left after held held_after written added w = record {
+whole_written (Serves hub) left after held held_after written added w = record {
   bytes = w.bytes;
   read = w.read;
   items = w.items;
@@ -82,6 +93,7 @@ whole_written Serves left after held held_after written added w = record {
   are_lines = w.are_lines;
   written = added_as held held_after written _ added w.written_is;
 }
+whole_written (Loads seed filters documents hub) left after held held_after written added w = w
 
 pub says_output : (form : Form) (before after : Moment) (status : Status) → Ran form before after status → IsTrue (is_finished status) →
     Answers form before.left after.left before.held after.held status

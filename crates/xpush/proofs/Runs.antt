@@ -9,9 +9,11 @@ use Rattle.px_feed.specs.Generator.{feed}
 use Rattle.px_feed.specs.Lines.{line_text}
 use Rattle.px_feed.specs.Outputs.{Out, text_of}
 use Rattle.px_document.specs.Findings as findings
+use Rattle.px_hub.specs.declared.config.Config.{Config}
 use Rattle.px_lines.specs.Served.{ServedFront}
+use Rattle.px_parallel.specs.Sums.{LoadFront, OutLoad}
 use Rattle.xpush.specs.Answers.{Moment, IsFrontOfOut, IsOutput, IsOfWhole, Ran, Wrote, is_done, reads}
-use Rattle.xpush.specs.Forms.{Form, Explains, Makes, Matches, Serves, Shows, Verifies}
+use Rattle.xpush.specs.Forms.{Form, Explains, Loads, Makes, Matches, Serves, Shows, Verifies}
 use Rattle.xpush.specs.Runs.{Answers, WritesFront, WritesWhole}
 use Rattle.px_lines.specs.Served.{is_finished, is_cut_short}
 
@@ -65,7 +67,7 @@ finished (Makes seed filters documents) left after held held_after status m = (
     unread = λ t. m.unread;
   },
 )
-finished Serves left after held held_after status s = (
+finished (Serves hub) left after held held_after status s = (
   s.text,
   s.written,
   record {
@@ -75,6 +77,18 @@ finished Serves left after held held_after status s = (
     ended = refl;
     read_whole = λ t. s.read_whole (done_only status t);
     unread = λ t. absurd (not_true t);
+  },
+)
+finished (Loads seed filters documents hub) left after held held_after status l = (
+  l.loaded.text,
+  l.loaded.written,
+  record {
+    answer = (l.loaded.text, Done);
+    answers = λ bytes found. (l.loaded.is_for, refl);
+    written_is = refl;
+    ended = l.loaded.ended;
+    read_whole = λ t. absurd (not_true t);
+    unread = λ t. l.unread;
   },
 )
 
@@ -90,11 +104,12 @@ of_whole (Shows filter) left after held held_after w = absurd w
 of_whole (Explains filter) left after held held_after w = ([], nothing_added held held_after w.1, (w.0, refl))
 of_whole (Verifies filter) left after held held_after w = ([], nothing_added held held_after w.1, (w.0, refl))
 of_whole (Makes seed filters documents) left after held held_after w = absurd w
-of_whole Serves left after held held_after w = (
+of_whole (Serves hub) left after held held_after w = (
   text_of w.lines,
   w.written,
   record { bytes = w.bytes; read = w.read; items = w.items; are_whole = w.are_whole; lines = w.lines; are_lines = w.are_lines; written_is = refl },
 )
+of_whole (Loads seed filters documents hub) left after held held_after w = absurd w
 
 by_status : (form : Form) (left after held held_after : Option (List ℕ)) (status : Status) → (status ≡ Usage → ⊥) →
     (IsTrue (is_finished status) → Answers form left after held held_after status) → (IsTrue (is_cut_short status) → WritesFront form left held held_after) →
@@ -147,10 +162,20 @@ ran_out form now = record {
 }
 
 -- the front of the output of a feed
-pub feed_front : (left held held_after : Option (List ℕ)) → ServedFront left held held_after → WritesFront Serves left held held_after
-feed_front left held held_after f = record { bytes_written = f.bytes_written; written = f.written; is_front = λ bytes told. as_front bytes (f.is_front bytes told) }
+pub feed_front : (hub : Option Config) (left held held_after : Option (List ℕ)) → ServedFront left held held_after → WritesFront (Serves hub) left held held_after
+feed_front hub left held held_after f = record { bytes_written = f.bytes_written; written = f.written; is_front = λ bytes told. as_front bytes (f.is_front bytes told) }
   where
     as_front : (bytes : List ℕ) → (f.bytes_written ≡ []) ⊎ ((text rest : List ℕ) × (status : Status) × Out bytes text status × (text ≡ f.bytes_written ++ rest)) →
-        IsFrontOfOut Serves bytes f.bytes_written
+        IsFrontOfOut (Serves hub) bytes f.bytes_written
     as_front bytes (inl none) = inl none
     as_front bytes (inr (text, rest, status, out, begins)) = inr (text, rest, status, ((text, status), out, refl, refl), begins)
+
+-- the front of the line of sums
+pub load_front : (seed filters documents : ℕ) (hub : Config) (left held held_after : Option (List ℕ)) → LoadFront seed filters documents held held_after →
+    WritesFront (Loads seed filters documents hub) left held held_after
+load_front seed filters documents hub left held held_after f = record { bytes_written = f.bytes_written; written = f.written; is_front = λ bytes found. as_front bytes f.is_front }
+  where
+    as_front : (bytes : List ℕ) → (f.bytes_written ≡ []) ⊎ ((text rest : List ℕ) × OutLoad seed filters documents text × (text ≡ f.bytes_written ++ rest)) →
+        IsFrontOfOut (Loads seed filters documents hub) bytes f.bytes_written
+    as_front bytes (inl none) = inl none
+    as_front bytes (inr (text, rest, out, begins)) = inr (text, rest, Done, ((text, Done), (out, refl), refl, refl), begins)

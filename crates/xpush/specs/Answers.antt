@@ -1,10 +1,12 @@
 -- What a run of the program answers.
-use Rattle.std.specs.Prelude.{◌≡◌, ◌≤◌, ◌++◌, ◌⊎◌, ℕ, Bool, true, false, List, [], Option, Some, IsTrue, IsFalse}
+use Rattle.std.specs.Prelude.{◌≡◌, ◌≤◌, ◌++◌, ◌⊎◌, ℕ, Bool, true, false, List, [], Option, Some, IfSome, IsNone, IsTrue, IsFalse}
 use Rattle.px_io.specs.Faults.{Rose}
 use Rattle.px_io.specs.Flows.{TakesFrom, AddsTo, IsSpent}
 use Rattle.px_feed.specs.declared.line.OutLine.{OutLine}
 use Rattle.px_feed.specs.declared.status.Status.{Status}
 use Rattle.px_feed.specs.declared.status.Status.TheVariants.{Done, Refused, Usage, ReadFault, WriteFault, Memory}
+use Rattle.px_options.specs.declared.OptionsError.{OptionsError}
+use Rattle.px_options.specs.declared.OptionsError.TheVariants as unread
 use Rattle.px_feed.specs.Generator.{feed}
 use Rattle.px_feed.specs.Items.{Item, AreWhole}
 use Rattle.px_feed.specs.Lines.{line_text}
@@ -14,7 +16,8 @@ use Rattle.px_document.specs.declared.finding.Finding.{Finding}
 use Rattle.px_document.specs.CutShort.{CutAtDocument, CutAtProof}
 use Rattle.px_document.specs.Findings as findings
 use Rattle.px_document.specs.Outputs as outputs
-use Rattle.xpush.specs.Forms.{Form, Explains, Makes, Matches, Serves, Shows, Verifies}
+use Rattle.px_parallel.specs.Sums.{OutLoad}
+use Rattle.xpush.specs.Forms.{Form, Explains, Loads, Makes, Matches, Serves, Shows, Verifies}
 
 -- a text, and the status behind it
 abbrev pub Output : Type 0
@@ -27,7 +30,8 @@ Answer (Shows filter) = Output
 Answer (Explains filter) = Finding
 Answer (Verifies filter) = Finding
 Answer (Makes seed filters documents) = Output
-Answer Serves = Output
+Answer (Serves hub) = Output
+Answer (Loads seed filters documents hub) = Output
 
 -- this is the answer to the form, where the source has these bytes
 abbrev pub IsAnswer : (form : Form) → (bytes : List ℕ) → Answer form → Type 0
@@ -36,7 +40,8 @@ IsAnswer (Shows filter) bytes output = OutShow filter output.0 output.1
 IsAnswer (Explains filter) bytes finding = outputs.Explains filter bytes finding
 IsAnswer (Verifies filter) bytes finding = outputs.Verifies filter bytes finding
 IsAnswer (Makes seed filters documents) bytes output = (output.0 ≡ feed seed filters documents) × (output.1 ≡ Done)
-IsAnswer Serves bytes output = Out bytes output.0 output.1
+IsAnswer (Serves hub) bytes output = Out bytes output.0 output.1
+IsAnswer (Loads seed filters documents hub) bytes output = OutLoad seed filters documents output.0 × (output.1 ≡ Done)
 
 -- what is written of an answer
 abbrev pub answer_text : (form : Form) → Answer form → List ℕ
@@ -45,7 +50,8 @@ answer_text (Shows filter) output = output.0
 answer_text (Explains filter) finding = findings.text finding
 answer_text (Verifies filter) finding = findings.text finding
 answer_text (Makes seed filters documents) output = output.0
-answer_text Serves output = output.0
+answer_text (Serves hub) output = output.0
+answer_text (Loads seed filters documents hub) output = output.0
 
 -- and how the run ends
 abbrev pub answer_status : (form : Form) → Answer form → Status
@@ -54,7 +60,8 @@ answer_status (Shows filter) output = output.1
 answer_status (Explains filter) finding = findings.status finding
 answer_status (Verifies filter) finding = findings.status finding
 answer_status (Makes seed filters documents) output = output.1
-answer_status Serves output = output.1
+answer_status (Serves hub) output = output.1
+answer_status (Loads seed filters documents hub) output = output.1
 
 abbrev pub is_done : Status → Bool
 is_done Done = true
@@ -67,7 +74,8 @@ needs_all (Shows filter) output = false
 needs_all (Explains filter) finding = findings.needs_all finding
 needs_all (Verifies filter) finding = findings.needs_all finding
 needs_all (Makes seed filters documents) output = false
-needs_all Serves output = is_done output.1
+needs_all (Serves hub) output = is_done output.1
+needs_all (Loads seed filters documents hub) output = false
 
 -- whether it is known before anything is read
 abbrev pub needs_none : (form : Form) → Answer form → Bool
@@ -76,7 +84,8 @@ needs_none (Shows filter) output = true
 needs_none (Explains filter) finding = findings.is_of_filter finding
 needs_none (Verifies filter) finding = findings.is_of_filter finding
 needs_none (Makes seed filters documents) output = true
-needs_none Serves output = false
+needs_none (Serves hub) output = false
+needs_none (Loads seed filters documents hub) output = true
 
 -- the text and the status of a form, where the source has these bytes
 abbrev pub OutOf : Form → (bytes text : List ℕ) → Status → Type 0
@@ -97,6 +106,7 @@ moment left held read_faults write_faults = record { left = left; held = held; r
 abbrev pub reads : Form → Bool
 reads (Shows filter) = false
 reads (Makes seed filters documents) = false
+reads (Loads seed filters documents hub) = false
 reads _ = true
 
 -- a form that reads its source finds these bytes there; one that reads nothing would answer the same to any
@@ -106,7 +116,8 @@ Finds (Shows filter) left bytes = Unit {0}
 Finds (Explains filter) left bytes = left ≡ Some bytes
 Finds (Verifies filter) left bytes = left ≡ Some bytes
 Finds (Makes seed filters documents) left bytes = Unit {0}
-Finds Serves left bytes = left ≡ Some bytes
+Finds (Serves hub) left bytes = left ≡ Some bytes
+Finds (Loads seed filters documents hub) left bytes = Unit {0}
 
 -- What was written is the output, by an answer for which the source was read as far as it needs.
 pub record IsOutput (form : Form) (left after : Option (List ℕ)) (written : List ℕ) (status : Status) : Type 0 where
@@ -143,7 +154,8 @@ IsOfWhole (Shows filter) left after written = ⊥
 IsOfWhole (Explains filter) left after written = CutAtDocument filter left after × (written ≡ [])
 IsOfWhole (Verifies filter) left after written = CutAtProof filter left after × (written ≡ [])
 IsOfWhole (Makes seed filters documents) left after written = ⊥
-IsOfWhole Serves left after written = AreLinesOfWhole left after written
+IsOfWhole (Serves hub) left after written = AreLinesOfWhole left after written
+IsOfWhole (Loads seed filters documents hub) left after written = ⊥
 
 -- What was written, by the status: the output, or of one that was cut short a front. Words that are in a form are no `Usage`.
 abbrev pub Wrote : Status → Form → (left after : Option (List ℕ)) → (written : List ℕ) → Type 0
@@ -170,3 +182,12 @@ pub record Ran (form : Form) (before after : Moment) (status : Status) : Type 0 
 pub record RanNot (has_options : Bool) (before after : Moment) (status : Status) : Type 0 where
   pub ended : (status ≡ Usage) ⊎ (IsTrue has_options × (status ≡ Memory))
   pub untouched : after ≡ before
+
+-- a run of the form that was said, or of none
+abbrev pub RanSaid : Option Form → (has_options : Bool) → (before after : Moment) → Status → Type 0
+RanSaid said has_options before after status = IfSome said (λ form. Ran form before after status) × (IsNone said → RanNot has_options before after status)
+
+-- how a run ends whose words were not read
+abbrev pub refused : OptionsError → Status
+refused unread.Usage = Usage
+refused unread.Memory = Memory

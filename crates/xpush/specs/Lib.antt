@@ -6,3 +6,4 @@ pub mod OptionRows
 pub mod Stops
 pub mod Showing
 pub mod Verdicts
+pub mod Ranges

@@ -15,8 +15,9 @@ use Rattle.px_document.specs.Findings.{line_is_of_filter, line_needs_all}
 use Rattle.px_document.specs.Outputs as outputs
 use Rattle.px_document.specs.Outputs.{IsFound}
 use Rattle.px_lines.specs.Served.{Served, ServedWhole}
+use Rattle.px_parallel.specs.Sums.{Loaded}
 use Rattle.xpush.specs.Answers.{IsFront}
-use Rattle.xpush.specs.Forms.{Form, Explains, Makes, Matches, Serves, Shows, Verifies}
+use Rattle.xpush.specs.Forms.{Form, Explains, Loads, Makes, Matches, Serves, Shows, Verifies}
 
 -- The line answers a filter's text and the document that is left in the source. A fault of the filter is answered before anything is read.
 pub record IsLineFor (filter : List ℕ) (left after : Option (List ℕ)) (line : OutLine) : Type 0 where
@@ -57,6 +58,11 @@ pub record Made (seed filters documents : ℕ) (left after held held_after : Opt
   pub ended : status ≡ Done
   pub unread : after ≡ left
 
+-- A run of `load` that was not cut short read nothing, and wrote the line of the sums.
+pub record LoadedUnread (seed filters documents : ℕ) (left after held held_after : Option (List ℕ)) (status : Status) : Type 0 where
+  pub loaded : Loaded seed filters documents held held_after status
+  pub unread : after ≡ left
+
 -- what a run that was not cut short answers
 abbrev pub Answers : Form → (left after held held_after : Option (List ℕ)) → Status → Type 0
 Answers (Matches filter) = Matched filter
@@ -64,7 +70,8 @@ Answers (Shows filter) = Shown filter
 Answers (Explains filter) = Proved (outputs.Explains filter)
 Answers (Verifies filter) = Proved (outputs.Verifies filter)
 Answers (Makes seed filters documents) = Made seed filters documents
-Answers Serves = Served
+Answers (Serves hub) = Served
+Answers (Loads seed filters documents hub) = LoadedUnread seed filters documents
 
 -- a run that was cut short wrote the front of its output
 pub record WritesFront (form : Form) (left held held_after : Option (List ℕ)) : Type 0 where
@@ -79,4 +86,5 @@ WritesWhole (Shows filter) left after held held_after = ⊥
 WritesWhole (Explains filter) left after held held_after = CutAtDocument filter left after × (held_after ≡ held)
 WritesWhole (Verifies filter) left after held held_after = CutAtProof filter left after × (held_after ≡ held)
 WritesWhole (Makes seed filters documents) left after held held_after = ⊥
-WritesWhole Serves left after held held_after = ServedWhole left after held held_after
+WritesWhole (Serves hub) left after held held_after = ServedWhole left after held held_after
+WritesWhole (Loads seed filters documents hub) left after held held_after = ⊥

@@ -6,9 +6,11 @@
 #![tactic(auto)]
 
 mod document;
+mod hub_words;
 pub mod laws;
 mod making;
 mod matching;
+mod options;
 pub mod plain;
 mod proving;
 pub mod run;

@@ -3,7 +3,7 @@
 ghost use Rattle.std.specs.Prelude.{IfSome, IsNone};
 ghost use Rattle.px_options.specs.OptionAnswers.{texts};
 ghost use Rattle.xpush.specs.Answers.{Ran, RanNot, moment};
-ghost use Rattle.xpush.specs.Forms.{form, form_of, have_options};
+ghost use Rattle.xpush.specs.Forms.{form, have_plain_options, plain_form_of};
 
 use crate::making::make_feed;
 use crate::matching::match_document;
@@ -29,11 +29,12 @@ pub fn plain<S: Source, K: Sink>(
     source: &mut S,
     sink: &mut K,
 ) -> Status
-    ensures ran { IfSome (form_of (texts words.now)) (λ said. Ran said
+    ensures ran { IfSome (plain_form_of (texts words.now)) (λ said. Ran said
         (moment (S.left source.old) (K.held sink.old) (S.faults source.old) (K.faults sink.old))
         (moment (S.left source.new) (K.held sink.new) (S.faults source.new) (K.faults sink.new))
         result) }
-    ensures no_form { IsNone (form_of (texts words.now)) → RanNot (have_options (texts words.now))
+    ensures no_form { IsNone (plain_form_of (texts words.now)) →
+        RanNot (have_plain_options (texts words.now))
         (moment (S.left source.old) (K.held sink.old) (S.faults source.old) (K.faults sink.old))
         (moment (S.left source.new) (K.held sink.new) (S.faults source.new) (K.faults sink.new))
         result }

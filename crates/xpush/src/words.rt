@@ -1,9 +1,10 @@
-//! Which command the words of the command line are.
+//! Which command that needs no runtime the words of the command line are.
 
 ghost use Rattle.std.specs.Prelude.{◌≡◌, false, true, option_map};
 ghost use Rattle.px_options.specs.OptionAnswers.{texts};
-ghost use Rattle.xpush.specs.Forms.{IsSaid, filter_form, form, form_of, have_options, make_form, serial_form};
+ghost use Rattle.xpush.specs.Forms.{IsSaid, filter_form, form, have_plain_options, make_form, plain_form_of, serial_form};
 
+use crate::options::{DOCUMENTS, FILTERS, SEED};
 use px_options::{CommandOption, OptionsError, read_options};
 use std::alloc::Global;
 
@@ -37,31 +38,13 @@ pub enum Command<'a> {
 }
 
 /// The options of `make`.
-const MAKE_OPTIONS: [CommandOption; 3] = [
-    CommandOption {
-        name: "seed",
-        least: 0,
-        most: 2_147_483_647,
-        default: None,
-    },
-    CommandOption {
-        name: "filters",
-        least: 0,
-        most: 50_000,
-        default: None,
-    },
-    CommandOption {
-        name: "documents",
-        least: 0,
-        most: 100_000,
-        default: None,
-    },
-];
+const MAKE_OPTIONS: [CommandOption; 3] = [SEED, FILTERS, DOCUMENTS];
 
-/// The command that the words are, if they are in a form: else `Usage`, but where there was no
-/// memory to read options.
+/// The command that the words are, if they are in a form that needs no runtime: else `Usage`, but
+/// where there was no memory to read options.
 pub fn command_of(alloc: Global, words: &[String]) -> Result<Command<'_>, OptionsError>
-    ensures { IsSaid (form_of (texts words.now)) (have_options (texts words.now)) result }
+    ensures { IsSaid form (plain_form_of (texts words.now)) (have_plain_options (texts words.now))
+        result }
 {
     let Some((name, rest)) = words.split_first() else {
         return Err(OptionsError::Usage);
@@ -77,7 +60,7 @@ pub fn command_of(alloc: Global, words: &[String]) -> Result<Command<'_>, Option
 
 // The command, if there is one.
 fn or_usage(command: Option<Command<'_>>) -> Result<Command<'_>, OptionsError>
-    ensures { IsSaid (option_map form command.entry) false result }
+    ensures { IsSaid form (option_map form command.entry) false result }
 {
     match command {
         Some(command) => Ok(command),
@@ -108,7 +91,7 @@ fn filter_command<'a>(name: &str, words: &'a [String]) -> Option<Command<'a>>
 
 // The command `make` with the options that the words are.
 fn make_command(alloc: Global, words: &[String]) -> Result<Command<'_>, OptionsError>
-    ensures { IsSaid (make_form (texts words.now)) true result }
+    ensures { IsSaid form (make_form (texts words.now)) true result }
 {
     let mut values = [0; 3];
     match read_options(alloc, &MAKE_OPTIONS, words, &mut values) {

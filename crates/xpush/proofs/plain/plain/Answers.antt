@@ -1,7 +1,7 @@
 -- The command is what the words say.
 use Rattle.px_options.specs.OptionAnswers.{texts}
 use Rattle.xpush.specs.Answers.{Ran, moment}
-use Rattle.xpush.specs.Forms.{Form, form, form_of}
+use Rattle.xpush.specs.Forms.{Form, form, plain_form_of}
 use Rattle.xpush.proofs.Runs.{ran_out}
 use Rattle.xpush.proofs.Saying.{of_any, of_form, in_form}
 use Rattle.xpush.proofs.plain.plain.Goals as goal
@@ -14,10 +14,10 @@ returns-in-Ok-clause-ran g c =
     (moment (g.S.Source.left c.run_command.new.source) (g.K.Sink.held c.run_command.new.sink) (g.S.Source.faults c.run_command.new.source)
     (g.K.Sink.faults c.run_command.new.sink))
     c.run_command.result in
-    of_form (texts c.args.words.now) (form c.in-Ok.command) P c.in-Ok.ensures c.run_command.ensures
+    of_form (plain_form_of (texts c.args.words.now)) (form c.in-Ok.command) P c.in-Ok.ensures c.run_command.ensures
 
 pub returns-in-Ok-clause-no_form : goal.returns-in-Ok-clause-no_form
-returns-in-Ok-clause-no_form g c = λ n. absurd (in_form (texts c.args.words.now) (form c.in-Ok.command) c.in-Ok.ensures n)
+returns-in-Ok-clause-no_form g c = λ n. absurd (in_form (plain_form_of (texts c.args.words.now)) (form c.in-Ok.command) c.in-Ok.ensures n)
 
 pub returns-in-Err-Memory-clause-ran : goal.returns-in-Err-Memory-clause-ran
-returns-in-Err-Memory-clause-ran g c = of_any (form_of (texts c.args.words.now)) _ (λ said. ran_out said _)
+returns-in-Err-Memory-clause-ran g c = of_any (plain_form_of (texts c.args.words.now)) _ (λ said. ran_out said _)

@@ -1,5 +1,5 @@
 -- Each command runs in its form.
-use Rattle.std.proofs.Common.{refl, sym, subst, arith}
+use Rattle.std.proofs.Common.{None, refl, sym, subst, arith}
 use Rattle.xpush.specs.declared.words.Command.{Command}
 use Rattle.xpush.specs.Answers.{Ran, moment}
 use Rattle.xpush.specs.Forms.{Explains, Makes, Matches, Serves, Shows, Verifies, form}
@@ -54,4 +54,4 @@ returns-in-Serial g c =
     let after = moment (g.S.Source.left c.serve_feed.new.source) (g.K.Sink.held c.serve_feed.new.sink) (g.S.Source.faults c.serve_feed.new.source) (g.K.Sink.faults c.serve_feed.new.sink) in
     let P : Command → Type 0 = λ command. Ran (form command) before after c.serve_feed.result in
     subst P (sym c.in-Serial.is)
-    (ran Serves before after c.serve_feed.result c.serve_feed.ensures.not_usage c.serve_feed.ensures.output (λ t. feed_front (g.S.Source.left c.args.source.now) (g.K.Sink.held c.args.sink.now) (g.K.Sink.held c.serve_feed.new.sink) (c.serve_feed.ensures.front t)) c.serve_feed.ensures.whole_items (λ n. absurd (cc)) c.serve_feed.ensures.read_fault c.serve_feed.ensures.write_fault c.serve_feed.ensures.source_counts c.serve_feed.ensures.sink_counts)
+    (ran (Serves None) before after c.serve_feed.result c.serve_feed.ensures.not_usage c.serve_feed.ensures.output (λ t. feed_front None (g.S.Source.left c.args.source.now) (g.K.Sink.held c.args.sink.now) (g.K.Sink.held c.serve_feed.new.sink) (c.serve_feed.ensures.front t)) c.serve_feed.ensures.whole_items (λ n. absurd (cc)) c.serve_feed.ensures.read_fault c.serve_feed.ensures.write_fault c.serve_feed.ensures.source_counts c.serve_feed.ensures.sink_counts)
