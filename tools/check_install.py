@@ -22,17 +22,19 @@ PAGE = "docs/xpush.1"
 ESCAPES = {r"\(dq": '"', r"\(aq": "'", r"\-": "-", r"\e": "\\"}
 # what the README and the man page both have to name: commands, kinds of refusal, limits
 NAMED = (
-    "serial match show explain verify make too-many not-a-filter too-long too-nested number-long unknown too-large no-versions "
+    "serial feed match show explain verify make load too-many not-a-filter too-long too-nested number-long unknown too-large no-versions "
     "not-here not-utf8 line-long too-deep too-many-attributes too-big feed-long truncated").split()
 LIMITS = [16_777_216, 1_048_576, 512, 256, 4_096, 64, 18, 500_000, 1_048_575, 1_099_511_627_776, 50_000, 100_000, 2_147_483_647, 4_294_967_295]
 # the words that are typed, and what is offered for the last
 OFFERED = {
-    "xpush ": {"serial", "match", "show", "explain", "verify", "make"},
+    "xpush ": {"serial", "feed", "match", "show", "explain", "verify", "make", "load"},
     "xpush m": {"match", "make"},
     "xpush make ": {"--seed", "--filters", "--documents"},
     "xpush make --seed 1 --f": {"--filters"},
     "xpush make --seed=1 ": {"--filters", "--documents"},
     "xpush make --seed ": set(),
+    "xpush feed --workers 2 ": {"--banks", "--node-bits", "--step-bits"},
+    "xpush load --seed=1 --w": {"--workers"},
     "xpush e": {"explain"},
     "xpush match /a ": set(),
 }
